@@ -1,0 +1,11 @@
+pub mod Told
+pub mod Causes
+pub mod Numbers
+pub mod Sinks
+pub mod Sources
+pub mod Files
+pub mod Listings
+pub mod Calls
+pub mod Memory
+pub mod MemorySource
+pub mod MemorySink
