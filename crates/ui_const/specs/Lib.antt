@@ -1,0 +1,5 @@
+pub mod Kinds
+pub mod Bits
+pub mod Results
+pub mod Operators
+pub mod Conversions
