@@ -1,0 +1,6 @@
+mod Pieces
+mod Words
+mod Containers
+mod Located
+mod Growing
+mod Spellings
