@@ -1,0 +1,9 @@
+pub mod Export
+pub mod Source
+pub mod Elements
+pub mod Record
+pub mod Size
+pub mod Constants
+pub mod Adding
+pub mod Writing
+pub mod Numbering
