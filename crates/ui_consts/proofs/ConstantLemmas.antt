@@ -14,7 +14,7 @@ use Rattle.std.specs.Cmp.Lexicographic.{slice_cmp, nat_list_cmp_total}
 use Rattle.std.specs.FinMap.{get, insert, empty, entries, from_entries, entries-insert, len-entries, len-empty, get-from_entries, get-insert, same_map, slice_cmp-IsAntisymmetric, nat_cmp-IsAntisymmetric}
 use Rattle.std.specs.FinMap.Entries.{put, find, find-put, by_order}
 use denote.Ref.{Bor}
-use Rattle.ui_consts.specs.Export.{Declaration, Declarations}
+use Rattle.ui_consts.specs.Export.{Declaration}
 use Rattle.ui_consts.specs.Constants.{declaration, entry_of, declarations_of}
 use Rattle.ui_consts.specs.declared.package.Constant.{Constant}
 

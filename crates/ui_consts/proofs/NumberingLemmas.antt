@@ -1,12 +1,12 @@
 -- Strings and files that are given numbers.
-use Rattle.std.proofs.Common.{◌≡◌, ℕ, zero, suc, ◌+◌, ◌-◌, ◌*◌, ◌^◌, ◌<◌, ◌≤◌, Bool, true, false, cond, List, [], ◌∷◌, ◌++◌, map, length, get_or, Option, Some, None, Vec, refl, sym, ap, ◌∙◌, subst, arith, append_assoc, eqb}
+use Rattle.std.proofs.Common.{◌≡◌, ℕ, zero, suc, ◌+◌, ◌*◌, ◌^◌, ◌<◌, ◌≤◌, Bool, true, false, cond, List, [], ◌∷◌, ◌++◌, map, length, get_or, Some, Vec, refl, sym, ap, ◌∙◌, subst, arith, append_assoc}
 use Rattle.std.specs.Prelude.{bytes_eq, slice_get, nat_eq}
 use Rattle.std.specs.List.{AllByRecursion, IsDistinct, list_any, range_with_len}
 use Rattle.std.specs.List.Sorted.{IsStrictlySortedBy}
 use Rattle.std.specs.Cmp.Lexicographic.{pointwise, slice_cmp}
 use Rattle.std.specs.Ordering.{nat_cmp}
 use Rattle.std.specs.Map.Iter.{deref_pair}
-use Rattle.std.specs.FinMap.{entries, len, len-entries, from_entries}
+use Rattle.std.specs.FinMap.{entries, len-entries, from_entries}
 use Rattle.std.specs.declared.alloc.Global.{Global}
 use Rattle.std.proofs.Math.ListN.{get_or-append}
 use Rattle.std.proofs.lemmas.List.{append-nil, length-append, length-map, map-append}
@@ -15,9 +15,9 @@ use Rattle.std.proofs.lemmas.Slice.Eq.{bytes_eq-Decides}
 use Rattle.std.proofs.lemmas.Bool.{eqb-true}
 use denote.Ref.{Bor}
 use Rattle.indexmap.specs.IndexSet.{insert_key}
-use Rattle.ui_consts.specs.Export.{Declaration, Declarations, Export}
+use Rattle.ui_consts.specs.Export.{Declaration, Export}
 use Rattle.ui_consts.specs.Elements.{Elements, Entry}
-use Rattle.ui_consts.specs.Record.{Fits, IsEntry, declared_by, meaning, name_at, text_at}
+use Rattle.ui_consts.specs.Record.{IsEntry, declared_by, meaning, name_at, text_at}
 use Rattle.ui_consts.specs.Size.{IsSmall, IsSmallEntry}
 use Rattle.ui_consts.specs.Constants.{declaration, entry_of, declarations_of}
 use Rattle.ui_consts.specs.Numbering.{IsNumbered, IsPlace, Numbers, elements_of, entry, texts}

@@ -13,7 +13,7 @@ use Rattle.ui_frame.specs.Container.{Parts, section}
 use Rattle.ui_frame.specs.declared.section.Section.TheVariants.{Str, PosBase, Pkg, Name, Obj}
 use Rattle.ui_consts.specs.Export.{Declaration, Declarations, Export}
 use Rattle.ui_consts.specs.Elements.{Elements, Entry, spelled, numbers, base_numbers, package_numbers, name_numbers, object_numbers, name_of, object_of}
-use Rattle.ui_consts.specs.Record.{Fits, IsEntry, StandsFor, declaration_of, entries_in, entry_in, entry_of_place, file_in, file_of, meaning, name_in, name_of_numbers, numbers_in, object_in, object_of_numbers, package_in, package_of, record_in, second_place, string_in, text_at}
+use Rattle.ui_consts.specs.Record.{Fits, IsEntry, StandsFor, declaration_of, entries_in, entry_in, entry_of_place, file_in, file_of, meaning, name_in, name_of_numbers, numbers_in, object_in, object_of_numbers, package_in, package_of, record_in, string_in, text_at}
 use Rattle.ui_consts.proofs.NumberLemmas.{AreNumbers, numbers_in-numbers}
 
 same_bytes : (ns : List ℕ) → bytes_eq ns ns ≡ true

@@ -1,12 +1,10 @@
 -- A package whose strings and files have numbers. This project's own.
 use Rattle.std.specs.Prelude.{◌≡◌, ℕ, ◌+◌, ◌*◌, ◌^◌, ◌<◌, ◌≤◌, List, [], ◌++◌, map, length, bytes_eq, slice_index_or}
 use Rattle.std.specs.List.{AllByRecursion, IsDistinct, range_with_len}
-use Rattle.std.specs.Ordering.{nat_cmp}
-use Rattle.std.specs.Cmp.Lexicographic.{slice_cmp}
 use denote.Ref.{Bor}
 use Rattle.ui_consts.specs.Export.{Declaration, Export}
 use Rattle.ui_consts.specs.Elements as elements
-use Rattle.ui_consts.specs.Record.{Fits, IsEntry, declared_by, meaning}
+use Rattle.ui_consts.specs.Record.{Fits, declared_by, meaning}
 use Rattle.ui_consts.specs.declared.numbered.Entry.{Entry}
 use Rattle.ui_consts.specs.declared.numbered.Numbered.{Numbered}
 

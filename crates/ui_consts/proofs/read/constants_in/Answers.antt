@@ -1,6 +1,4 @@
-use Rattle.std.proofs.Common.{◌-◌, ◌<◌, ◌≤◌, Some, option_map, sym, ap, ◌∙◌, arith, length}
-use Rattle.ui_frame.specs.Container.{section}
-use Rattle.ui_frame.specs.declared.section.Section.TheVariants.{Name, Obj}
+use Rattle.std.proofs.Common.{◌-◌, Some, option_map, sym, ap, ◌∙◌, arith}
 use Rattle.ui_consts.specs.Constants.{declaration, declarations_of}
 use Rattle.ui_consts.proofs.SourceLemmas.{no_declarations}
 use Rattle.ui_consts.proofs.RecordLemmas.{constants-turn, from-end, from-none, from-other}

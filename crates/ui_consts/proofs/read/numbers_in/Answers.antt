@@ -1,4 +1,4 @@
-use Rattle.std.proofs.Common.{◌≡◌, ◌+◌, ◌<◌, ◌≤◌, length, arith, ap, sym, ◌∙◌}
+use Rattle.std.proofs.Common.{arith}
 use Rattle.ui_consts.proofs.NumberLemmas.{read_on-start, numbers-turn, numbers-stop, numbers-full, numbers-end}
 use Rattle.ui_consts.proofs.read.numbers_in.Goals as goal
 

@@ -1,6 +1,5 @@
-use Rattle.std.proofs.Common.{◌≡◌, List, ℕ, length, sym, ap, ◌∙◌, subst, arith, Result, Ok, Err, Option, Some, None}
-use Rattle.std.specs.Prelude.{IfOk, IfSome}
-use Rattle.ui_consts.specs.Source.{export_of}
+use Rattle.std.proofs.Common.{◌≡◌, length, sym, ap, subst, arith}
+use Rattle.std.specs.Prelude.{IfOk}
 use Rattle.ui_consts.proofs.SourceLemmas.{export-long_file, export-long_text, export-not_ended, few_lines, read-whole}
 use Rattle.ui_consts.proofs.SmallLemmas.{small_result}
 use Rattle.ui_consts.proofs.source.read_source.Goals as goal

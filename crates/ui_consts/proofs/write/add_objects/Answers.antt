@@ -1,4 +1,4 @@
-use Rattle.std.proofs.Common.{◌≤◌, [], ◌∷◌, List, ℕ, length, get_or, refl, ap, arith}
+use Rattle.std.proofs.Common.{[], ◌∷◌, List, ℕ, length, get_or, refl, ap, arith}
 use Rattle.ui_frame.specs.declared.section.Section.TheVariants.{Obj}
 use Rattle.ui_consts.specs.Elements.{numbers, object_of}
 use Rattle.ui_consts.specs.Numbering.{entry}

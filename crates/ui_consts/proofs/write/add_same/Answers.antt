@@ -1,4 +1,4 @@
-use Rattle.std.proofs.Common.{◌+◌, ◌*◌, ◌≤◌, length, replicate, arith}
+use Rattle.std.proofs.Common.{◌+◌, ◌*◌, length, replicate, arith}
 use Rattle.ui_consts.specs.Elements.{numbers}
 use Rattle.ui_consts.proofs.WriteLemmas.{Adds-more, Adds-same, replicate-more}
 use Rattle.ui_consts.proofs.write.add_same.Goals as goal

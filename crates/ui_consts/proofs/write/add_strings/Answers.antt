@@ -1,4 +1,4 @@
-use Rattle.std.proofs.Common.{ℕ, List, [], length, get_or, refl}
+use Rattle.std.proofs.Common.{ℕ, List, [], get_or, refl}
 use denote.Ref.{Bor}
 use Rattle.ui_frame.specs.declared.section.Section.TheVariants.{Str}
 use Rattle.ui_consts.proofs.WriteLemmas.{Adds-turn, room-turn, short_at}

@@ -1,4 +1,4 @@
-use Rattle.std.proofs.Common.{◌+◌, [], ◌∷◌, List, ℕ, refl, arith}
+use Rattle.std.proofs.Common.{◌+◌, [], ◌∷◌, arith}
 use Rattle.ui_consts.proofs.WriteLemmas.{range-turn}
 use Rattle.ui_consts.proofs.write.push_places.Goals as goal
 

@@ -1,4 +1,4 @@
-use Rattle.std.proofs.Common.{◌≡◌, ◌*◌, ◌^◌, ◌≤◌, length, arith, lit≤, min, refl}
+use Rattle.std.proofs.Common.{◌*◌, ◌^◌, length, arith, lit≤, refl}
 use Rattle.ui_consts.specs.Writing.{HasRoom}
 use Rattle.ui_consts.proofs.WriteLemmas.{enough, gathered-is, room0, room1, room2, room3, room4, room5, room6, room7, room8, room9, room10}
 use Rattle.ui_consts.proofs.write.write_elements.Goals as goal

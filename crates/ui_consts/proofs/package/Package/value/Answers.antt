@@ -1,4 +1,4 @@
-use Rattle.std.proofs.Common.{◌≡◌, ℕ, List, option_map, Option, Some, None, refl, sym, ap, ◌∙◌}
+use Rattle.std.proofs.Common.{◌≡◌, ℕ, List, option_map, Option, Some, None, sym, ap, ◌∙◌}
 use Rattle.std.specs.FinMap.{get}
 use denote.Ref.{Bor}
 use Rattle.ui_consts.specs.Constants.{declaration, declarations_of}
