@@ -1,7 +1,5 @@
 // A package whose strings and files have numbers.
-ghost use Rattle.std.specs.Prelude.{◌≡◌, ℕ, ◌+◌, ◌*◌, ◌^◌, ◌<◌, ◌≤◌, length, bytes_eq, IfOk};
-ghost use Rattle.std.specs.List.{IsDistinct};
-ghost use Rattle.indexmap.specs.IndexSet.{index_set_len};
+ghost use Rattle.std.specs.Prelude.{◌≡◌, ◌^◌, ◌<◌, length, IfOk};
 ghost use Rattle.ui_consts.specs.Constants.{declaration};
 ghost use Rattle.ui_consts.specs.Numbering.{IsNumbered, IsPlace, Numbers, entry, texts};
 ghost use Rattle.ui_consts.specs.Size.{IsSmall};

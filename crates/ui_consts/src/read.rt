@@ -1,5 +1,5 @@
 // A package read from its linked file.
-ghost use Rattle.std.specs.Prelude.{◌≡◌, ℕ, ◌<◌, Some, map, option_map, slice_get, slice_index, bytes_eq, IfOk, OnOk};
+ghost use Rattle.std.specs.Prelude.{◌≡◌, Some, option_map, slice_get, slice_index, bytes_eq, IfOk, OnOk};
 ghost use Rattle.std.specs.Option.{option_copied};
 ghost use Rattle.std.specs.FinMap.{from_entries, insert};
 ghost use Rattle.ui_frame.specs.Container.{Parts, section};
@@ -19,7 +19,7 @@ use ui_frame::{Frame, Section, get_uint};
 /// The most numbers of an element that is read: those of an Obj.
 const NUMBERS: usize = 14;
 
-// The numbers of an element, or nothing where it has others things or too many.
+// The numbers of an element, or nothing where other bytes stand in it or too many numbers.
 fn numbers_in(alloc: Global, bytes: &[u8]) -> Result<Option<Vec<u64>>, NoMemory>
     ensures { IfOk result (λ o. option_map (λ v. v.items) o ≡ record_of.numbers_in bytes.now) }
 {
@@ -225,8 +225,8 @@ fn put(
     Ok(())
 }
 
-/// The package that a container stands for, or nothing where it stands for none. Looks at what the constants are made
-/// of, and at neither root.
+/// The package that an opened container stands for, or nothing where it stands for none. Looks at the package, the
+/// constants and what these use, and at neither root.
 #[tactic(auto, unfolding(crate::specs::Record::record_in))]
 pub fn read_linked(alloc: Global, frame: &Frame) -> Result<Option<Package>, NoMemory>
     ensures { IfOk result (λ o. o ≡ record_in frame.now) }

@@ -1,5 +1,5 @@
 // The linked file of a package, written.
-ghost use Rattle.std.specs.Prelude.{◌≡◌, ◌+◌, ◌*◌, ◌^◌, ◌<◌, ◌≤◌, [], ◌∷◌, ◌++◌, map, length, replicate, IfOk, OnOk, vec_len};
+ghost use Rattle.std.specs.Prelude.{◌≡◌, ◌*◌, ◌^◌, ◌<◌, ◌≤◌, [], ◌∷◌, ◌++◌, map, length, replicate, IfOk, OnOk, vec_len};
 ghost use Rattle.std.specs.List.{AllByRecursion, flat_map, range_with_len};
 ghost use Rattle.ui_consts.specs.Elements as elements;
 ghost use Rattle.ui_consts.specs.Numbering.{entry, gathered, texts};
@@ -229,7 +229,8 @@ fn write_elements(
     Ok(out)
 }
 
-/// The linked file of a package.
+/// The linked file of a package: a container whose parts stand for it, of at most 2^30 bytes. The package has to be
+/// small, as each is that `read_source` gives.
 pub fn write_linked(alloc: Global, of: &Package) -> Result<Vec<u8>, NoMemory>
     requires { IsSmall of.now }
     ensures holds { IfOk result (λ v. Holds v.items of.now) }
