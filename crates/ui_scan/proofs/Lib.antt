@@ -1,0 +1,14 @@
+pub mod BlankLaws
+pub mod Choices
+pub mod CommentLaws
+pub mod EscapeLaws
+pub mod LetterLaws
+pub mod LiteralLaws
+pub mod LiteralTokens
+pub mod LongestLaws
+pub mod NumberLaws
+pub mod PieceLaws
+pub mod ScanLaws
+pub mod SourceLaws
+pub mod TokenLaws
+pub mod ValueLaws

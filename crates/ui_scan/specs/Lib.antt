@@ -1,0 +1,13 @@
+pub mod Digits
+pub mod Escape
+pub mod Letters
+pub mod Literal
+pub mod Longest
+pub mod Number
+pub mod Piece
+pub mod Scan
+pub mod Source
+pub mod Steps
+pub mod Table
+pub mod Tokens
+pub mod Value
