@@ -1,0 +1,6 @@
+pub mod PartLemmas
+pub mod NodeLemmas
+pub mod TableLemmas
+pub mod KeyLemmas
+pub mod SubstLemmas
+pub mod MemoLemmas

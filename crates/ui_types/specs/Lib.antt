@@ -1,0 +1,12 @@
+pub mod Ty
+pub mod Codes
+pub mod Parts
+pub mod Table
+pub mod Nodes
+pub mod Trees
+pub mod Entries
+pub mod Made
+pub mod Decls
+pub mod Kept
+pub mod Stays
+pub mod Outcome

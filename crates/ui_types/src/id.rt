@@ -1,0 +1,8 @@
+use ui_base::Items;
+
+/// A type of a `TypeTable`, by its place.
+#[derive(Clone, Copy, Debug, PartialEq, Eq, Hash)]
+pub struct TypeId(pub usize);
+
+/// A list of types.
+pub type Ids = Items<TypeId>;
