@@ -84,14 +84,14 @@ fn sources(rt: HostRuntime) -> Result<(), Fail> {
 #[test]
 fn limits(rt: HostRuntime) -> Result<(), Fail> {
     let mut text = Vec::from_slice(rt.alloc(), b"package a\n")?;
-    while text.len() < 4096 {
+    for _i in 0..4086 {
         text.push(b'\n')?;
     }
     assert!(rt; is_taken(rt.alloc(), "a", &text)?);
     text.push(b'\n')?;
     assert!(rt; !is_taken(rt.alloc(), "a", &text)?);
     let mut file = String::new(rt.alloc());
-    while file.len() < 255 {
+    for _i in 0..255 {
         file.push('f')?;
     }
     assert!(rt; read_source(rt.alloc(), "a", &file, b"package a\n")?.is_some());
@@ -122,76 +122,66 @@ const ONE: &[u8] = b"\x01\0\0\0\0\0\0\0\
     \0\0\0\0\0\0\0\0";
 
 #[test]
-fn files(rt: HostRuntime) -> Result<(), Fail> {
-    let alloc = rt.alloc();
-    let file = linked(&rt, alloc, "a", b"package a\n\nconst N = 7\n")?;
+fn one_constant(rt: HostRuntime) -> Result<(), Fail> {
+    let file = linked(&rt, rt.alloc(), "a", b"package a\n\nconst N = 7\n")?;
     assert_eq!(rt; file.len(), 173);
-    assert_eq!(rt; &file[..165], ONE);
-    let empty = linked(&rt, alloc, "e", b"package e\n")?;
-    assert_eq!(rt; empty.len(), 86);
+    assert!(rt; file.starts_with(ONE));
     Ok(())
 }
 
 #[test]
-fn read_again(rt: HostRuntime) -> Result<(), Fail> {
-    let alloc = rt.alloc();
-    let text = b"package A\nconst N = 7\nconst B = 0\n\nconst A = 300\n";
-    let file = linked(&rt, alloc, "x/A", text)?;
-    let Ok(frame) = Frame::open(&file) else {
-        return Err(Fail::from("no container"));
-    };
-    assert_eq!(rt; frame.count(Section::Str), 5);
-    assert_eq!(rt; frame.count(Section::PosBase), 1);
-    let package = read_linked(alloc, &frame)?.expect(&rt, "a package");
-    assert!(rt; package.path() == b"x/A".as_slice() && package.name() == b"A".as_slice());
-    assert_eq!(rt; package.value(b"A"), Some(300));
-    assert_eq!(rt; package.value(b"B"), Some(0));
-    assert_eq!(rt; package.value(b"N"), Some(7));
-    assert_eq!(rt; package.value(b"C"), None);
-    let file = linked(&rt, alloc, "e", b"package e\n")?;
-    let Ok(empty) = Frame::open(&file) else {
-        return Err(Fail::from("no container"));
-    };
-    let package = read_linked(alloc, &empty)?.expect(&rt, "a package");
+fn no_constant(rt: HostRuntime) -> Result<(), Fail> {
+    let file = linked(&rt, rt.alloc(), "e", b"package e\n")?;
+    assert_eq!(rt; file.len(), 86);
+    let package = read_file(rt.alloc(), &file)?.expect(&rt, "a package");
     assert_eq!(rt; package.value(b"e"), None);
     Ok(())
 }
 
-// The file of a container of the package `a` without constants, with one more element.
-fn with_element(alloc: Global, s: Section, bytes: &[u8]) -> Result<Vec<u8>, Fail> {
+// The package that a file stands for, if it is a container that stands for one.
+fn read_file(alloc: Global, file: &[u8]) -> Result<Option<Package>, NoMemory> {
+    match Frame::open(file) {
+        Ok(frame) => read_linked(alloc, &frame),
+        Err(_) => Ok(None),
+    }
+}
+
+// The number of Strings of a file.
+fn count_strings(file: &[u8]) -> u32 {
+    match Frame::open(file) {
+        Ok(frame) => frame.count(Section::Str),
+        Err(_) => 0,
+    }
+}
+
+#[test]
+fn read_again(rt: HostRuntime) -> Result<(), Fail> {
+    let text = b"package A\nconst N = 7\nconst B = 0\n\nconst A = 300\n";
+    let file = linked(&rt, rt.alloc(), "x/A", text)?;
+    assert_eq!(rt; count_strings(&file), 5);
+    let package = read_file(rt.alloc(), &file)?.expect(&rt, "a package");
+    assert_eq!(rt; package.value(b"A"), Some(300));
+    assert_eq!(rt; package.value(b"N"), Some(7));
+    assert_eq!(rt; package.value(b"C"), None);
+    Ok(())
+}
+
+// Whether the container of the package `a` without constants, with one more element, stands for a package.
+fn is_read(alloc: Global, s: Section, bytes: &[u8]) -> Result<bool, Fail> {
     let mut out = FrameOut::new(alloc);
     out.add(alloc, Section::Str, b"a")?;
     out.add(alloc, Section::Pkg, b"\x01\0\0\0\0")?;
     out.add(alloc, s, bytes)?;
-    Ok(out.finish(alloc)?)
+    let file = out.finish(alloc)?;
+    let package = read_file(alloc, &file)?;
+    Ok(package.is_some())
 }
 
 #[test]
 fn other_parts(rt: HostRuntime) -> Result<(), Fail> {
-    let alloc = rt.alloc();
-    let empty = FrameOut::new(alloc).finish(alloc)?;
-    let files: [(Vec<u8>, bool); 5] = [
-        (with_element(alloc, Section::Body, b"x")?, true),
-        (empty, false),
-        (
-            with_element(alloc, Section::Name, b"\x02\x03\0\0\0\0\x01\x01")?,
-            false,
-        ),
-        (
-            with_element(
-                alloc,
-                Section::Obj,
-                b"\x02\x02\0\x05\0\x01\0\x03\x07\0\x01\0\x02\x0e",
-            )?,
-            false,
-        ),
-        (with_element(alloc, Section::Name, b"")?, false),
-    ];
-    for (file, is_some) in files {
-        let Ok(frame) = Frame::open(&file) else {
-            return Err(Fail::from("no container"));
-        };
-        assert_eq!(rt; read_linked(alloc, &frame)?.is_some(), is_some);
-    }
+    let name = b"\x02\x03\0\0\0\0\x01\x01";
+    assert!(rt; is_read(rt.alloc(), Section::Body, b"x")?);
+    assert!(rt; !is_read(rt.alloc(), Section::Name, name)?);
+    assert!(rt; !is_read(rt.alloc(), Section::Obj, b"")?);
     Ok(())
 }
