@@ -1,0 +1,12 @@
+use Rattle.std.proofs.Common.{◌≡◌, ◌≤◌, take}
+use Rattle.ui_store.specs.Told.{more}
+use Rattle.ui_top.specs.Answers.{answers, are_answered}
+use Rattle.ui_top.specs.Outcome.{words_of}
+use Rattle.ui_top.proofs.answers.answer_all.Given as goal
+
+abbrev pub invariant-loop-query : goal.invariant-loop-query
+invariant-loop-query g l = record {
+  written : g.O.Sink.written l.out ≡ more (g.O.Sink.written l.initial.out) (answers l.of (words_of (take l.query-index l.queries)));
+  all : l.all ≡ are_answered l.of (words_of (take l.query-index l.queries));
+  count : g.O.Sink.faults l.initial.out ≤ g.O.Sink.faults l.out;
+}

@@ -1,0 +1,14 @@
+use Rattle.std.proofs.Common.{sym, subst, Result}
+use Rattle.ui_frame.specs.Laws.{IsBytes}
+use Rattle.ui_consts.specs.Export.{Export}
+use Rattle.ui_top.specs.Plan.{Refusal}
+use Rattle.ui_top.specs.Stops.{Settles}
+use Rattle.ui_top.proofs.Loading.{Containers, recorded-container}
+use Rattle.ui_top.proofs.build.record.Goals as goal
+
+pub returns-in-Ok : goal.returns-in-Ok
+returns-in-Ok c =
+    let P : Result Export Refusal → Type 0 = λ w. Settles (λ (p : Export). p) w c.record_of.result in
+    let laws : Containers = record { passes = c.one_container.ensures.passes; found = c.one_container.ensures.found; one = c.one_container.ensures.one } in
+    let are : IsBytes c.in-Some.bytes.items = rw c.deref.ensures.value at c.are_bytes.ensures in
+    rw c.in-Some.is (subst P (sym (recorded-container laws _ _ _ _ are (rw c.deref-2.ensures.value at c.in-Ok.ensures.found))) c.record_of.ensures)

@@ -1,0 +1,12 @@
+use Rattle.std.proofs.Common.{◌≡◌, ◌≤◌}
+use Rattle.ui_top.specs.Sources.{sources_of}
+use Rattle.ui_top.specs.Stops.{state}
+use Rattle.ui_top.proofs.Reading.{Continues}
+use Rattle.ui_top.proofs.sources.read_sources.Given as goal
+
+abbrev pub invariant-loop-name : goal.invariant-loop-name
+invariant-loop-name g l = record {
+  files : g.S.Store.files l.store ≡ g.S.Store.files l.initial.store;
+  count : g.S.Store.faults l.initial.store ≤ g.S.Store.faults l.store;
+  rest : Continues l.folder l.names (state (g.S.Store.files l.initial.store) (g.S.Store.asked l.initial.store)) l.name-index (sources_of l.sources) (state (g.S.Store.files l.store) (g.S.Store.asked l.store));
+}

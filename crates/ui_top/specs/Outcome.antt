@@ -1,0 +1,92 @@
+-- The outcome of each command over the files that a store tells, by the program's sources.
+use Rattle.std.specs.Prelude.{List, [], ◌∷◌, ◌++◌, map, Option, Some, None, Result, Ok, Err, String, string_bytes, codes, bytes_eq, ◌&&◌, if◌then◌else◌}
+use Rattle.std.specs.declared.alloc.Global.{Global}
+use Rattle.hex.specs.Hex.{encode_lower}
+use Rattle.ui_base.specs.Paths.{is_path}
+use Rattle.ui_store.specs.Files.{Files}
+use Rattle.ui_store.specs.Calls.{Ask}
+use Rattle.ui_frame.specs.declared.frame.FrameFault.{FrameFault}
+use Rattle.ui_frame.specs.declared.frame.FrameFault.TheVariants as frame
+use Rattle.ui_consts.specs.Export.{Export}
+use Rattle.ui_top.specs.Plan.{Text, Refusal, NoFile, Form, TooLong, BadFrame, BadElement, Put, Plan}
+use Rattle.ui_top.specs.Package.{build}
+use Rattle.ui_top.specs.Answers.{answers, are_answered}
+use Rattle.ui_top.specs.declared.status.Status.{Status}
+use Rattle.ui_top.specs.declared.status.Status.TheVariants as status
+
+-- What a command is to do: how it ends, the bytes on `out`, the line on `err`, the calls on the store, and the files
+-- written, each with what it stands for.
+pub record Outcome : Type 0 where
+  pub ends : Status
+  pub out : Text
+  pub line : Text
+  pub asks : List Ask
+  pub puts : List Put
+
+-- a command with its operands
+pub data Command : Type 0 where
+  -- the path of a package, and queries
+  Build : Text → List Text → Command
+
+abbrev pub line : Text → Text → Text
+line label name = label ++ name ++ codes "\n"
+
+abbrev pub refused_as : Refusal → Status
+refused_as (NoFile name) = status.NoFile
+refused_as (Form name) = status.Refused
+refused_as (TooLong name) = status.BadFile
+refused_as (BadFrame name fault) = status.BadFile
+refused_as (BadElement name) = status.BadFile
+
+-- the test of a container that failed, to the line's end; a fingerprint's with both values
+abbrev pub frame_end : FrameFault → Text
+frame_end frame.Short = codes ": Short\n"
+frame_end frame.Version = codes ": Version\n"
+frame_end frame.Flags = codes ": Flags\n"
+frame_end frame.Counts = codes ": Counts\n"
+frame_end frame.Ends = codes ": Ends\n"
+frame_end frame.Length = codes ": Length\n"
+frame_end (frame.Fingerprint kept computed) = codes ": Fingerprint kept " ++ encode_lower kept ++ codes " computed " ++ encode_lower computed ++ codes "\n"
+
+abbrev pub refusal_line : Refusal → Text
+refusal_line (NoFile name) = codes "no file: " ++ name ++ codes "\n"
+refusal_line (Form name) = name ++ codes ":1:1: Form\n"
+refusal_line (TooLong name) = codes "bad file: " ++ name ++ codes ": TooLong\n"
+refusal_line (BadFrame name fault) = codes "bad file: " ++ name ++ frame_end fault
+refusal_line (BadElement name) = codes "bad file: " ++ name ++ codes ": Element\n"
+
+abbrev pub answers_end : Export → List Text → Status
+answers_end export queries = if are_answered export queries then status.Ok else status.QueryRefused
+
+-- the end and the texts, by what a package declares or why there is none
+abbrev pub ends_of : List Text → Result Export Refusal → Status
+ends_of queries (Ok export) = answers_end export queries
+ends_of queries (Err refusal) = refused_as refusal
+
+abbrev pub out_of : List Text → Result Export Refusal → Text
+out_of queries (Ok export) = answers export queries
+out_of queries (Err refusal) = []
+
+abbrev pub line_of : Result Export Refusal → Text
+line_of (Ok export) = []
+line_of (Err refusal) = refusal_line refusal
+
+abbrev pub of_plan : List Text → Plan Export → Outcome
+of_plan queries plan = record { ends = ends_of queries plan.value; out = out_of queries plan.value; line = line_of plan.value; asks = plan.asks; puts = plan.puts }
+
+unfoldable pub outcome : Files → Command → Outcome
+outcome files (Build path queries) = of_plan queries (build files path)
+
+-- the texts of words
+abbrev pub words_of : List (String Global) → List Text
+words_of words = map string_bytes words
+
+-- the command that the words spell
+unfoldable pub command_of : List Text → Option Command
+command_of [] = None
+command_of (word ∷ []) = None
+command_of (word ∷ path ∷ queries) = if bytes_eq word (codes "build") && is_path path then Some (Build path queries) else None
+
+-- the line of words that spell no command
+abbrev pub usage : Text
+usage = codes "usage: goui build PATH [QUERY]... | compile PATH | link PATH | dump PATH [QUERY]... | ask PATH | frame NAME | gen N\n"

@@ -1,0 +1,134 @@
+-- What a command does: its outcome, or a front of it where a device or memory ended it; and the cause of each end.
+use Rattle.std.specs.Prelude.{◌≡◌, ◌⊎◌, ℕ, ◌≤◌, [], Option, IfSome, codes, ⊤}
+use Rattle.ui_store.specs.Causes.{Rose}
+use Rattle.ui_store.specs.Told.{more}
+use Rattle.ui_store.specs.Sinks.{Partly}
+use Rattle.ui_store.specs.Files.{Files}
+use Rattle.ui_store.specs.Calls.{Calls, Hearings}
+use Rattle.ui_store.specs.declared.store.AskKind.TheVariants as ask
+use Rattle.ui_top.specs.Plan.{Text}
+use Rattle.ui_top.specs.Stops.{Puts, PutsFront, AsksFront, EndsWith}
+use Rattle.ui_top.specs.Outcome.{Outcome, Command, Build, outcome, line, usage}
+use Rattle.ui_top.specs.declared.status.Status.{Status}
+use Rattle.ui_top.specs.declared.status.Status.TheVariants as status
+
+-- What the store, the source, the sinks and the counter tell at a moment, with the counts of faults.
+pub record Scene : Type 0 where
+  pub files : Option Files
+  pub asked : Calls
+  pub heard : Hearings
+  pub faults : ℕ
+  pub input : Option Text
+  pub input_faults : ℕ
+  pub out : Option Text
+  pub out_faults : ℕ
+  pub err : Option Text
+  pub err_faults : ℕ
+  pub steps : ℕ
+
+abbrev pub scene : Option Files → Calls → Hearings → ℕ → Option Text → ℕ → Option Text → ℕ → Option Text → ℕ → ℕ → Scene
+scene files asked heard faults input input_faults out out_faults err err_faults steps = record {
+  files = files;
+  asked = asked;
+  heard = heard;
+  faults = faults;
+  input = input;
+  input_faults = input_faults;
+  out = out;
+  out_faults = out_faults;
+  err = err;
+  err_faults = err_faults;
+  steps = steps;
+}
+
+-- A text is written on `err`, whole where its count didn't rise, and else a front of it.
+pub record Says (text : Text) (before now : ℕ) (old new : Option Text) : Type 0 where
+  pub later : before ≤ now
+  pub whole : ¬ (Rose before now) → new ≡ more old text
+  pub part : Partly old new text
+
+abbrev pub Said : Text → Scene → Scene → Type 0
+Said text old new = Says text old.err_faults new.err_faults old.err new.err
+
+-- how a command ends that a device's fault or want of memory ended
+abbrev pub IsExcused : Status → Type 0
+IsExcused status.ReadFault = ⊤
+IsExcused status.WriteFault = ⊤
+IsExcused status.OutFault = ⊤
+IsExcused status.NoMemory = ⊤
+IsExcused status.Ok = ⊥
+IsExcused status.Refused = ⊥
+IsExcused status.Usage = ⊥
+IsExcused status.NoFile = ⊥
+IsExcused status.BadFile = ⊥
+IsExcused status.Stale = ⊥
+IsExcused status.QueryRefused = ⊥
+IsExcused status.InputTooLong = ⊥
+
+-- The command ended as its outcome says.
+pub record Reached (want : Outcome) (old new : Scene) (ends : Status) : Type 0 where
+  pub status : ends ≡ want.ends
+  pub out : new.out ≡ more old.out want.out
+  pub line : Said want.line old new
+  pub asked : new.asked ≡ more old.asked want.asks
+  pub files : Puts want.puts old.files new.files
+
+-- A fault of a device or want of memory ended it: a front of its bytes is written, a front of its calls asked, and a
+-- front of its files written.
+pub record Excused (want : Outcome) (old new : Scene) (ends : Status) : Type 0 where
+  pub status : IsExcused ends
+  pub out : Partly old.out new.out want.out
+  pub asked : AsksFront want.asks old.asked new.asked
+  pub files : PutsFront want.puts old.files new.files
+
+abbrev pub Reaches : Outcome → Scene → Scene → Status → Type 0
+Reaches want old new ends = Excused want old new ends ⊎ Reached want old new ends
+
+-- the name of the last call on the store, of a kind that reads
+abbrev pub ReadLast : Calls → Text → Type 0
+ReadLast asked name = EndsWith asked (ask.List, name) ⊎ EndsWith asked (ask.Read, name)
+
+-- Why a command ends so, over every store, source and sink: a fault comes from its device, whose count rose, and names
+-- the last call; and which ends a build has.
+abbrev pub Caused : Command → Scene → Scene → Status → Type 0
+Caused command old new status.ReadFault = Rose old.faults new.faults × ((name : Text) × ReadLast new.asked name × Said (line (codes "read fault: ") name) old new)
+Caused command old new status.WriteFault = Rose old.faults new.faults × ((name : Text) × EndsWith new.asked (ask.Write, name) × Said (line (codes "write fault: ") name) old new)
+Caused command old new status.OutFault = Rose old.out_faults new.out_faults × Said (line (codes "output fault") []) old new
+Caused command old new status.NoMemory = Said (line (codes "no memory") []) old new
+Caused (Build path queries) old new status.Usage = ⊥
+Caused (Build path queries) old new status.Stale = ⊥
+Caused (Build path queries) old new status.InputTooLong = ⊥
+Caused command old new status.Ok = ⊤
+Caused command old new status.QueryRefused = ⊤
+Caused command old new status.Refused = ⊤
+Caused command old new status.NoFile = ⊤
+Caused command old new status.BadFile = ⊤
+
+-- What a command does.
+pub record Runs (command : Command) (old new : Scene) (ends : Status) : Type 0 where
+  -- over a store that tells its files: the outcome by the sources alone
+  pub reaches : IfSome old.files (λ told. Reaches (outcome told command) old new ends)
+  -- over every store, source and sink
+  pub caused : Caused command old new ends
+  -- no count of faults falls, and what the command has no use for stays
+  pub store_count : old.faults ≤ new.faults
+  pub out_count : old.out_faults ≤ new.out_faults
+  pub err_count : old.err_faults ≤ new.err_faults
+  pub input : new.input ≡ old.input
+  pub input_count : new.input_faults ≡ old.input_faults
+  pub steps : new.steps ≡ old.steps
+
+-- Words that spell no command: nothing but the usage is written, and nothing is asked.
+pub record RunsUsage (old new : Scene) (ends : Status) : Type 0 where
+  pub status : ends ≡ status.Usage
+  pub line : Said usage old new
+  pub files : new.files ≡ old.files
+  pub asked : new.asked ≡ old.asked
+  pub heard : new.heard ≡ old.heard
+  pub out : new.out ≡ old.out
+  pub input : new.input ≡ old.input
+  pub steps : new.steps ≡ old.steps
+
+-- Where the store tells its files and no count rose, the command ends as its outcome says, or for want of memory.
+abbrev pub Completes : Command → Scene → Scene → Status → Type 0
+Completes command old new ends = IfSome old.files (λ told. ¬ (Rose old.faults new.faults) → ¬ (Rose old.out_faults new.out_faults) → (ends ≡ status.NoMemory) ⊎ Reached (outcome told command) old new ends)
