@@ -24,6 +24,7 @@ use Rattle.ui_scan.specs.declared.kind.TokenKind.TheVariants as kind
 use Rattle.ui_scan.specs.declared.piece.Piece.{Piece}
 use Rattle.ui_scan.specs.declared.piece.Piece.TheVariants as a
 use Rattle.ui_scan.proofs.LiteralLaws.{body_in}
+use Rattle.ui_scan.proofs.LongestLaws.{lexeme_read}
 use Rattle.ui_scan.proofs.PieceLaws.{tested, number_end_in}
 
 -- a token that is a literal is one by its text
@@ -195,7 +196,7 @@ lexeme_value : (bytes : List ℕ) (t : Token) → IsLexeme bytes t → IsIfLiter
 lexeme_value bytes t token = λ literal.
     let start : t.start < length bytes = omega (arith, token.some_bytes, token.in_bytes) in
     let is : LiteralIs (drop t.start bytes) (a.Token t.kind (t.end - t.start)) =
-    subst (LiteralIs (drop t.start bytes)) token.token (lexeme_is (drop t.start bytes) (omega (arith, length-drop t.start bytes))) in
+    subst (LiteralIs (drop t.start bytes)) (lexeme_read bytes t token) (lexeme_is (drop t.start bytes) (omega (arith, length-drop t.start bytes))) in
     record { ordered = omega (arith, token.some_bytes); within = token.in_bytes; literal = is literal }
 
 open_value : (bytes : List ℕ) (t : Token) → is_literal t.kind ≡ false → IsIfLiteral bytes t

@@ -1,87 +1,94 @@
--- What is read is the longest of its kind.
-use Rattle.std.proofs.Common.{◌≡◌, ℕ, ◌<◌, ◌≤◌, Bool, true, false, cond, List, [], ◌∷◌, ◌++◌, length, take, drop, refl, sym, ap, ◌∙◌, subst, arith, append_assoc, ⊎_elim}
-use Rattle.std.specs.Prelude.{nat_eq, nat_le, ◌&&◌, ◌||◌, not, encode_utf8, encode_utf8_all, All}
-use Rattle.std.specs.List.{starts_with, list_all, AllByRecursion}
-use Rattle.std.specs.Char.{len_utf8}
-use lib.Utf8.{scalar, scalars}
-use Rattle.std.proofs.lemmas.Bool.{cases_Bool, cases_lt, and_parts, or_cases, not-true, true≢false, leb-true}
-use Rattle.std.proofs.lemmas.List.{take-take, length-append, drop_at}
-use Rattle.std.proofs.lemmas.List.Elements.{All-from_recursion}
-use Rattle.std.proofs.lemmas.Slice.Eq.{bytes_eq-Decides}
-use Rattle.std.proofs.lemmas.Str.{length-encode}
-use Rattle.ui_base.specs.Names.{continues}
-use Rattle.ui_scan.specs.Letters.{name_len}
-use Rattle.ui_scan.specs.Table.{Entry, operators, operator, first_operator}
-use Rattle.ui_scan.specs.Longest.{NoLonger, LongestOperator, LongestName}
+-- What is read is the longest token.
+use Rattle.std.proofs.Common.{◌≡◌, ℕ, ◌-◌, ◌<◌, List, ◌++◌, length, take, drop, refl, sym, ap, ◌∙◌, subst, arith}
+use Rattle.std.specs.Prelude.{◌==◌, ◌&&◌, slice_index}
+use Rattle.std.proofs.lemmas.Bool.{eqb-true}
+use Rattle.std.proofs.lemmas.List.{take-append-drop, length-take-le, length-drop}
+use Rattle.ui_scan.specs.Language.{IsToken}
+use Rattle.ui_scan.specs.Language.IsToken.{identifier, keyword, operator as operator_token, int, rune as rune_token, string as string_token, raw_string as raw_token}
+use Rattle.ui_scan.specs.Letters.{begins_name}
+use Rattle.ui_scan.specs.Longest.{IsLongestToken, ReadsTheLongest}
+use Rattle.ui_scan.specs.Piece.{lexeme, word, is_decimal, IsPieceIn}
+use Rattle.ui_scan.specs.Table.{operators, operator}
+use Rattle.ui_scan.specs.Tokens.{IsLexeme}
+use Rattle.ui_scan.specs.declared.kind.Token.{Token}
 use Rattle.ui_scan.specs.declared.kind.TokenKind.{TokenKind}
-use Rattle.ui_scan.specs.declared.piece.Piece.TheVariants as piece
-use Rattle.ui_scan.proofs.PieceLaws.{starts_with_is}
-use Rattle.ui_scan.proofs.LetterLaws.{front_char-encode, name_len_more}
+use Rattle.ui_scan.specs.declared.piece.Piece.{Piece}
+use Rattle.ui_scan.specs.declared.piece.Piece.TheVariants as a
+use Rattle.ui_scan.proofs.PieceLaws.{tested, lexeme_in}
+use Rattle.ui_scan.proofs.Readings.{Outdone, Reads, Sound, HasAtLeast}
+use Rattle.ui_scan.proofs.WordLanguage.{identifier_reads, keyword_reads, word_sound}
+use Rattle.ui_scan.proofs.OperatorLanguage.{Spells, operator_reads, operator_sound}
+use Rattle.ui_scan.proofs.NumberLanguage.{int_reads, number_sound, faulty_reads}
+use Rattle.ui_scan.proofs.LiteralLanguage.{string_reads, rune_reads, raw_string_reads, string_sound, rune_sound, raw_string_sound}
 
--- an entry that begins by another, before which it stands, is no longer
-abbrev stands_well : Entry → Entry → Bool
-stands_well entry later = not (starts_with nat_eq later.0 entry.0) || nat_le (length later.0) (length entry.0)
+-- where a token stands
+token_reads : (kind : TokenKind) (text rest : List ℕ) → IsToken kind text → Reads (text ++ rest) kind (length text) (lexeme (text ++ rest))
+token_reads kind text rest (identifier is name) = identifier_reads kind text rest is name
+token_reads kind text rest (keyword is) = keyword_reads kind text rest is
+token_reads kind text rest (operator_token is) = operator_reads kind text rest is
+token_reads kind text rest (int is i) = int_reads kind text rest is i
+token_reads kind text rest (rune_token is r) = rune_reads kind text rest is r
+token_reads kind text rest (string_token is s) = string_reads kind text rest is s
+token_reads kind text rest (raw_token is r) = raw_string_reads kind text rest is r
 
-abbrev is_ordered : List Entry → Bool
-is_ordered [] = true
-is_ordered (entry ∷ table) = list_all (stands_well entry) table && is_ordered table
+-- what is read is a token
+operator_is : (bytes : List ℕ) (p : Piece) → Spells operators bytes p → Sound bytes p
+operator_is bytes (a.Blank len ends_line) spells = tt
+operator_is bytes (a.Token kind len) spells = operator_token spells
+operator_is bytes (a.Fault kind at) spells = tt
+operator_is bytes (a.Open kind) spells = tt
 
--- of two texts that begin the same bytes the shorter begins the longer
-begins_both : (bytes a b : List ℕ) → starts_with nat_eq bytes a ≡ true → starts_with nat_eq bytes b ≡ true → length a ≤ length b → starts_with nat_eq b a ≡ true
-begins_both bytes a b p q le =
-    let is_a = starts_with_is bytes a p in
-    let is_b = starts_with_is bytes b q in
-    (bytes_eq-Decides a (take (length a) b)).1
-    (is_a ∙ sym (take-take (length a) (length b) bytes le) ∙ sym (ap (take (length a)) is_b))
+lexeme_sound : (bytes : List ℕ) → Sound bytes (lexeme bytes)
+unfolding lexeme word
+lexeme_sound bytes =
+    let b = slice_index bytes 0 in
+    tested (Sound bytes) (b == 34) _ _ (λ e. string_sound bytes (eqb-true b 34 e))
+    (λ _. tested (Sound bytes) (b == 39) _ _ (λ e. rune_sound bytes (eqb-true b 39 e))
+    (λ _. tested (Sound bytes) (b == 96) _ _ (λ e. raw_string_sound bytes (eqb-true b 96 e))
+    (λ _. tested (Sound bytes) (is_decimal b) _ _ (λ digit. number_sound bytes digit)
+    (λ _. tested (Sound bytes) (b == 46 && is_decimal (slice_index bytes 1)) _ _ (λ _. tt)
+    (λ _. tested (Sound bytes) (begins_name bytes) (word bytes) (operator bytes) (λ begins. word_sound bytes begins)
+    (λ _. operator_is bytes (operator bytes) (operator_sound bytes)))))))
 
-later_no_longer : (bytes : List ℕ) (entry later : Entry) → starts_with nat_eq bytes entry.0 ≡ true → stands_well entry later ≡ true → NoLonger bytes (length entry.0) later
-later_no_longer bytes entry later found well = λ begins.
-    ⊎_elim
-    (λ (apart : not (starts_with nat_eq later.0 entry.0) ≡ true).
-    ⊎_elim
-    (λ (less : length entry.0 < length later.0). absurd (true≢false (sym (begins_both bytes entry.0 later.0 found begins (omega arith)) ∙ not-true (starts_with nat_eq later.0 entry.0) apart)))
-    (λ (le : length later.0 ≤ length entry.0). le)
-    (cases_lt (length entry.0) (length later.0)))
-    (λ short. leb-true (length later.0) (length entry.0) short)
-    (or_cases (not (starts_with nat_eq later.0 entry.0)) (nat_le (length later.0) (length entry.0)) well)
+reads_in : (bytes : List ℕ) (kind : TokenKind) (text rest : List ℕ) → IsToken kind text → bytes ≡ text ++ rest → Reads bytes kind (length text) (lexeme bytes)
+reads_in bytes kind text rest token spelling = subst (λ t. Reads t kind (length text) (lexeme t)) (sym spelling) (token_reads kind text rest token)
 
-each_later : (bytes : List ℕ) (entry : Entry) (table : List Entry) → starts_with nat_eq bytes entry.0 ≡ true → list_all (stands_well entry) table ≡ true
-    → AllByRecursion (NoLonger bytes (length entry.0)) table
-each_later bytes entry [] found well = tt
-each_later bytes entry (later ∷ table) found well =
-    let parts = and_parts (stands_well entry later) (list_all (stands_well entry) table) well in
-    (later_no_longer bytes entry later found parts.0, each_later bytes entry table found parts.1)
+pub read_is_longest : (bytes : List ℕ) (kind : TokenKind) (len : ℕ) → 0 < length bytes → lexeme bytes ≡ a.Token kind len → IsLongestToken bytes kind len
+read_is_longest bytes kind len long is = record {
+  within = (let p : IsPieceIn (length bytes) (a.Token kind len) = subst (IsPieceIn (length bytes)) is (lexeme_in bytes long) in p.1);
+  token = (let s : Sound bytes (a.Token kind len) = subst (Sound bytes) is (lexeme_sound bytes) in s);
+  longest = record {
+    of_tokens = λ other text rest token spelling.
+        let r : Reads bytes other (length text) (a.Token kind len) = subst (Reads bytes other (length text)) is (reads_in bytes other text rest token spelling) in r.0;
+    of_faulty = λ text rest faulty spelling.
+        let r : HasAtLeast (length text) (a.Token kind len) = subst (HasAtLeast (length text)) (sym (ap lexeme spelling) ∙ is) (faulty_reads text rest faulty) in r;
+  };
+}
 
-first_is_longest : (table : List Entry) (bytes : List ℕ) (kind : TokenKind) (len : ℕ) → is_ordered table ≡ true → first_operator table bytes ≡ piece.Token kind len
-    → AllByRecursion (NoLonger bytes len) table
-first_is_longest [] bytes kind len ordered is = absurd (cc)
-first_is_longest (entry ∷ table) bytes kind len ordered is =
-    let parts = and_parts (list_all (stands_well entry) table) (is_ordered table) ordered in
-    ⊎_elim
-    (λ found.
-    let own : length entry.0 ≡ len = (let e : piece.Token entry.1 (length entry.0) ≡ piece.Token kind len =
-    sym (ap (λ t. cond t (piece.Token entry.1 (length entry.0)) (first_operator table bytes)) found) ∙ is in cc) in
-    subst (λ n. AllByRecursion (NoLonger bytes n) (entry ∷ table)) own
-    ((λ _. omega arith), each_later bytes entry table found parts.0))
-    (λ other. (
-      (λ begins. absurd (true≢false (sym begins ∙ other))),
-      first_is_longest table bytes kind len parts.1
-          (sym (ap (λ t. cond t (piece.Token entry.1 (length entry.0)) (first_operator table bytes)) other) ∙ is),
-    ))
-    (cases_Bool (starts_with nat_eq bytes entry.0))
+longest_is_read : (bytes : List ℕ) (kind : TokenKind) (len : ℕ) → 0 < length bytes → IsLongestToken bytes kind len → lexeme bytes ≡ a.Token kind len
+longest_is_read bytes kind len long it =
+    by_piece (lexeme bytes) refl (reads_in bytes kind (take len bytes) (drop len bytes) it.token (sym (take-append-drop len bytes)))
+  where
+    own : length (take len bytes) ≡ len
+    own = length-take-le len bytes it.within
 
-pub longest_operator : LongestOperator
-unfolding operator operators
-longest_operator bytes kind len is = All-from_recursion (NoLonger bytes len) operators (first_is_longest operators bytes kind len refl is)
+    outdone : Outdone bytes (length (take len bytes)) → ⊥
+    outdone o = omega (arith, own, o.longer, it.longest.of_faulty o.text o.rest o.faulty o.spelling)
 
-pub longest_name : LongestName
-longest_name [] others values each = omega arith
-longest_name (c ∷ cs) others values each =
-    let v = and_parts (scalar c) (scalars cs) values in
-    let e = and_parts (continues c) (list_all continues cs) each in
-    let text = encode_utf8 c ++ (encode_utf8_all cs ++ others) in
-    let whole : (encode_utf8 c ++ encode_utf8_all cs) ++ others ≡ text = append_assoc (encode_utf8 c) (encode_utf8_all cs) others in
-    let more = name_len_more text c (front_char-encode c (encode_utf8_all cs ++ others) v.0) e.0 in
-    let rest : drop (len_utf8 c) text ≡ encode_utf8_all cs ++ others = drop_at (encode_utf8 c) (encode_utf8_all cs ++ others) (len_utf8 c) (length-encode c) in
-    let far = longest_name cs others v.1 e.1 in
-    omega (arith, ap name_len whole, more, ap name_len rest, far, length-append (encode_utf8 c) (encode_utf8_all cs), length-encode c)
+    by_piece : (p : Piece) → lexeme bytes ≡ p → Reads bytes kind (length (take len bytes)) p → lexeme bytes ≡ a.Token kind len
+    by_piece (a.Blank n ends_line) is reads = absurd reads
+    by_piece (a.Token k n) is reads =
+        let other = read_is_longest bytes k n long is in
+        let no_longer = it.longest.of_tokens k (take n bytes) (drop n bytes) other.token (sym (take-append-drop n bytes)) in
+        let same : n ≡ len = omega (arith, own, reads.0, no_longer, length-take-le n bytes other.within) in
+        is ∙ ap (λ m. a.Token k m) same ∙ ap (λ x. a.Token x len) (sym (reads.1 (own ∙ sym same)))
+    by_piece (a.Fault k at) is reads = absurd (outdone reads)
+    by_piece (a.Open k) is reads = absurd (outdone reads)
+
+pub reads_the_longest : ReadsTheLongest
+reads_the_longest bytes kind len long = (read_is_longest bytes kind len long, longest_is_read bytes kind len long)
+
+-- the token of a file is read
+pub lexeme_read : (bytes : List ℕ) (t : Token) → IsLexeme bytes t → lexeme (drop t.start bytes) ≡ a.Token t.kind (t.end - t.start)
+lexeme_read bytes t token =
+    longest_is_read (drop t.start bytes) t.kind (t.end - t.start) (omega (arith, token.some_bytes, token.in_bytes, length-drop t.start bytes)) token.longest

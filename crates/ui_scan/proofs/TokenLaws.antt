@@ -14,6 +14,7 @@ use Rattle.ui_scan.specs.declared.kind.TokenKind.{TokenKind}
 use Rattle.ui_scan.specs.declared.kind.TokenKind.TheVariants.{End}
 use Rattle.ui_scan.specs.declared.piece.Piece.{Piece}
 use Rattle.ui_scan.specs.declared.piece.Piece.TheVariants as a
+use Rattle.ui_scan.proofs.LongestLaws.{read_is_longest, lexeme_read}
 use Rattle.ui_scan.proofs.PieceLaws.{piece_in}
 use Rattle.ui_scan.proofs.BlankLaws.{blank_piece, piece_is_blank, IsBlankOf, piece_by_lexeme, piece_token}
 use Rattle.ui_scan.proofs.ScanLaws.{place_after-append, place_after_at, outcome_end, by_blank, by_line, by_token, by_fault, by_open}
@@ -200,7 +201,8 @@ found_token bytes due at len t ts le long room start end line col open_ no_blank
           no_blank = ap (λ n. begins_blank (drop n bytes)) start ∙ no_blank;
           some_bytes = omega (arith, start, end);
           in_bytes = omega (arith, end);
-          token = ap (λ n. lexeme (drop n bytes)) start ∙ token ∙ ap (a.Token t.kind) (let e : len ≡ t.end - t.start = omega (arith, start, end) in e);
+          longest = read_is_longest (drop t.start bytes) t.kind (t.end - t.start) (omega (arith, start, length-drop t.start bytes))
+              (ap (λ n. lexeme (drop n bytes)) start ∙ token ∙ ap (a.Token t.kind) (let e : len ≡ t.end - t.start = omega (arith, start, end) in e));
         },
         stand,
       );
@@ -355,7 +357,7 @@ complete_token bytes due at t u ts le lt next start s token words =
     let len = t.end - t.start in
     let end : t.end ≡ at + len = omega (arith, token.some_bytes, start) in
     let is : piece (drop at bytes) ≡ a.Token t.kind len =
-    ap (λ n. piece (drop n bytes)) (sym start) ∙ piece_by_lexeme (drop t.start bytes) token.no_blank ∙ token.token in
+    ap (λ n. piece (drop n bytes)) (sym start) ∙ piece_by_lexeme (drop t.start bytes) token.no_blank ∙ lexeme_read bytes t token in
     let within : IsPieceIn (length (drop at bytes)) (a.Token t.kind len) =
     subst (IsPieceIn (length (drop at bytes))) is (piece_in (drop at bytes) (omega (arith, length-drop at bytes))) in
     let p = place_at bytes at in

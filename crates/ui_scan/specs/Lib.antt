@@ -1,5 +1,6 @@
 pub mod Digits
 pub mod Escape
+pub mod Language
 pub mod Letters
 pub mod Literal
 pub mod Longest

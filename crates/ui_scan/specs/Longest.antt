@@ -1,21 +1,22 @@
--- What is read is the longest of its kind. Go specification, "Tokens".
-use Rattle.std.specs.Prelude.{◌≡◌, ◌≤◌, ℕ, true, List, ◌++◌, length, nat_eq, encode_utf8_all, All}
-use Rattle.std.specs.List.{starts_with, list_all}
-use lib.Utf8.{scalars}
-use Rattle.ui_base.specs.Names.{continues}
-use Rattle.ui_scan.specs.Table.{Entry, operators, operator}
-use Rattle.ui_scan.specs.Letters.{name_len}
+-- The longest token that bytes begin with. Go specification, "Tokens".
+use Rattle.std.specs.Prelude.{◌≡◌, ◌<◌, ◌≤◌, ◌↔◌, ℕ, List, ◌++◌, length, take}
+use Rattle.ui_scan.specs.Language.{IsToken, IsFaulty}
+use Rattle.ui_scan.specs.Piece.{lexeme}
 use Rattle.ui_scan.specs.declared.kind.TokenKind.{TokenKind}
 use Rattle.ui_scan.specs.declared.piece.Piece.TheVariants as piece
 
--- no operator that the bytes begin with has more bytes
-abbrev pub NoLonger : List ℕ → ℕ → Entry → Type 0
-NoLonger bytes len entry = starts_with nat_eq bytes entry.0 ≡ true → length entry.0 ≤ len
+-- No token that the bytes begin with has more bytes, and no faulty number. (No token begins where a faulty literal in
+-- quotes does.)
+pub record IsLongest (bytes : List ℕ) (len : ℕ) : Type 0 where
+  pub of_tokens : (kind : TokenKind) (text rest : List ℕ) → IsToken kind text → bytes ≡ text ++ rest → length text ≤ len
+  pub of_faulty : (text rest : List ℕ) → IsFaulty text → bytes ≡ text ++ rest → length text ≤ len
 
--- the operator that is read is the longest that the bytes begin with
-abbrev pub LongestOperator : Type 0
-LongestOperator = (bytes : List ℕ) (kind : TokenKind) (len : ℕ) → operator bytes ≡ piece.Token kind len → All (NoLonger bytes len) operators
+-- the bytes begin with a token of this kind and length, which is the longest
+pub record IsLongestToken (bytes : List ℕ) (kind : TokenKind) (len : ℕ) : Type 0 where
+  pub within : len ≤ length bytes
+  pub token : IsToken kind (take len bytes)
+  pub longest : IsLongest bytes len
 
--- and no letters and digits that the bytes begin with have more bytes than the name that is read
-abbrev pub LongestName : Type 0
-LongestName = (cs others : List ℕ) → scalars cs ≡ true → list_all continues cs ≡ true → length (encode_utf8_all cs) ≤ name_len (encode_utf8_all cs ++ others)
+-- what is read is that token, and it is read wherever there is one
+abbrev pub ReadsTheLongest : Type 0
+ReadsTheLongest = (bytes : List ℕ) (kind : TokenKind) (len : ℕ) → 0 < length bytes → (lexeme bytes ≡ piece.Token kind len) ↔ IsLongestToken bytes kind len

@@ -3,10 +3,10 @@
 use Rattle.std.specs.Prelude.{◌≡◌, ◌≢◌, ◌≤◌, ◌<◌, ◌⊎◌, ℕ, ◌-◌, Bool, true, false, ◌||◌, ◌&&◌, ◌==◌, List, [], ◌∷◌, ◌++◌, take, drop, length, Option, None, Some, if◌then◌else◌, slice_index}
 use Rattle.std.specs.List.{list_any, concat}
 use Rattle.std.specs.Str.{IsUtf8}
-use Rattle.ui_scan.specs.Piece.{is_line_end, is_blank, is_end, comment_len, lexeme}
+use Rattle.ui_scan.specs.Longest.{IsLongestToken}
+use Rattle.ui_scan.specs.Piece.{is_line_end, is_blank, is_end, comment_len}
 use Rattle.ui_scan.specs.Source.{begins_mark, mark_len, after_mark}
 use Rattle.ui_scan.specs.Scan.{place_after, origin, semicolons, due_after}
-use Rattle.ui_scan.specs.declared.piece.Piece.TheVariants as piece
 use Rattle.ui_scan.specs.declared.place.Place.{Place}
 use Rattle.ui_scan.specs.declared.kind.Token.{Token}
 use Rattle.ui_scan.specs.declared.kind.TokenKind.TheVariants.{End}
@@ -63,12 +63,12 @@ begins_blank bytes =
     let next = slice_index bytes 1 in
     is_line_end b || (is_blank b || ((b == 47 && next == 47) || (b == 47 && next == 42)))
 
--- the token is what the bytes from its start begin with, and neither white space nor a comment begins there
+-- the token is the longest that the bytes from its start begin with, and neither white space nor a comment begins there
 pub record IsLexeme (bytes : List ℕ) (t : Token) : Type 0 where
   pub no_blank : begins_blank (drop t.start bytes) ≡ false
   pub some_bytes : t.start < t.end
   pub in_bytes : t.end ≤ length bytes
-  pub token : lexeme (drop t.start bytes) ≡ piece.Token t.kind (t.end - t.start)
+  pub longest : IsLongestToken (drop t.start bytes) t.kind (t.end - t.start)
 
 -- the place of an offset
 abbrev pub place_at : List ℕ → ℕ → Place

@@ -1,7 +1,7 @@
 //! What the bytes begin with.
 
 ghost use Rattle.std.specs.Prelude.{◌≡◌, ◌<◌, ◌≤◌, ◌+◌, length, slice_index, take, drop, IfSome};
-ghost use Rattle.ui_scan.specs.Longest.{LongestOperator, LongestName};
+ghost use Rattle.ui_scan.specs.Longest.{ReadsTheLongest};
 ghost use Rattle.ui_scan.specs.Piece as spec;
 
 use crate::kind::{ScanKind, TokenKind};
@@ -138,9 +138,7 @@ pub fn piece_at(bytes: &[u8]) -> Piece
     any_piece(bytes)
 }
 
-/// What is read is the longest: no operator that the bytes begin with is longer than the one that is read, and no
-/// letters and digits that they begin with are longer than the name.
+/// What is read is the longest token of any kind that the bytes begin with, and is read wherever there is one.
 pub fn longest_tokens()
-    ensures operator { LongestOperator }
-    ensures name { LongestName }
+    ensures { ReadsTheLongest }
 {}
