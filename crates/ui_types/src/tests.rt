@@ -6,7 +6,7 @@ ghost use Rattle.ui_types.specs.Kept.{Kept};
 use crate::{
     Basic, Decl, Decls, Env, Face, Field, Fields, Ids, ListEnv, Method, MethodFaces, Methods, Name,
     NoMemory, Pos, TParam, TParams, Term, Terms, Text, TypeFault, TypeId, TypeNode, TypeTable,
-    underlying,
+    Value, underlying,
 };
 use std::alloc::Global;
 use std::test::Fail;
@@ -221,6 +221,7 @@ fn depths_to_the_limit(rt: HostRuntime) -> Result<(), Fail> {
     let mut table = TypeTable::new(alloc);
     let int = table.intern(alloc, TypeNode::Basic(Basic::Int))?;
     let deep = pointers(alloc, &mut table, int, 255)?;
+    assert!(rt; table.depth(deep) == 256);
     let large = pairs(alloc, &mut table, int, 15)?;
     let past = table.intern(alloc, TypeNode::Pointer(deep));
     assert!(rt; matches!(past, Err(TypeFault::TooDeep { depth: 257 })));
@@ -230,6 +231,39 @@ fn depths_to_the_limit(rt: HostRuntime) -> Result<(), Fail> {
     };
     let past = table.intern(alloc, both);
     assert!(rt; matches!(past, Err(TypeFault::TooBig { size: 65792 })));
+    Ok(())
+}
+
+// A substitution reaches depth 256, and is told by its number past it.
+#[test]
+fn substitutions_to_the_limit(rt: HostRuntime) -> Result<(), Fail> {
+    let alloc = rt.alloc();
+    let mut table = TypeTable::new(alloc);
+    let param = table.intern(alloc, TypeNode::Param(0))?;
+    let int = table.intern(alloc, TypeNode::Basic(Basic::Int))?;
+    let generic = pointers(alloc, &mut table, param, 255)?;
+    let deep = table.subst(alloc, generic, &[int])?;
+    assert!(rt; table.depth(deep) == 256);
+    let pointer = table.intern(alloc, TypeNode::Pointer(int))?;
+    let past = table.subst(alloc, generic, &[pointer]);
+    assert!(rt; matches!(past, Err(TypeFault::TooDeep { depth: 257 })));
+    Ok(())
+}
+
+// A type parameter without an argument stays.
+#[test]
+fn parameters_without_arguments(rt: HostRuntime) -> Result<(), Fail> {
+    let alloc = rt.alloc();
+    let mut table = TypeTable::new(alloc);
+    let key = table.intern(alloc, TypeNode::Param(0))?;
+    let elem = table.intern(alloc, TypeNode::Param(1))?;
+    let int = table.intern(alloc, TypeNode::Basic(Basic::Int))?;
+    let generic = table.intern(alloc, TypeNode::Map { key, elem })?;
+    let none = table.subst(alloc, generic, &[])?;
+    assert!(rt; table.same(none, generic));
+    let one = table.subst(alloc, generic, &[int])?;
+    let wanted = table.intern(alloc, TypeNode::Map { key: int, elem })?;
+    assert!(rt; table.same(one, wanted));
     Ok(())
 }
 
@@ -261,18 +295,39 @@ fn one_param(alloc: Global, bound: TypeId) -> Result<TParams, NoMemory>
     Ok(TParams::new(params))
 }
 
-// `type T[P bound] under`.
-fn example(alloc: Global, bound: TypeId, under: TypeId) -> Result<Decls, NoMemory>
+// `type T[P bound] under`, or `T` declared as an alias, a constant, a variable or a function.
+fn face(alloc: Global, kind: u32, bound: TypeId, under: TypeId) -> Result<Face, NoMemory>
+    ensures { (table : Table) → IsId table bound → IsId table under → IfOk result (IsFace table) }
+{
+    match kind {
+        0 => {
+            let params = one_param(alloc, bound)?;
+            let methods = MethodFaces::new(Vec::new(alloc));
+            Ok(Face::Defined {
+                params,
+                under,
+                methods,
+            })
+        }
+        1 => Ok(Face::Alias { ty: under }),
+        2 => Ok(Face::Const {
+            ty: under,
+            value: Value::Whole(7),
+        }),
+        3 => Ok(Face::Var { ty: under }),
+        _ => {
+            let params = one_param(alloc, bound)?;
+            Ok(Face::Func { params, sig: under })
+        }
+    }
+}
+
+// The one declaration of `T`.
+fn example(alloc: Global, kind: u32, bound: TypeId, under: TypeId) -> Result<Decls, NoMemory>
     ensures { (table : Table) → IsId table bound → IsId table under → IfOk result (AreDecls table) }
 {
-    let params = one_param(alloc, bound)?;
-    let methods = MethodFaces::new(Vec::new(alloc));
+    let face = face(alloc, kind, bound, under)?;
     let mut decls = Vec::new(alloc);
-    let face = Face::Defined {
-        params,
-        under,
-        methods,
-    };
     declare(alloc, &mut decls, b"T", face)?;
     Ok(Decls::new(decls))
 }
@@ -309,19 +364,41 @@ fn is_under<E: Env>(
     Ok(table.same(under, wanted))
 }
 
-// The underlying type has the argument put in.
+// Whether `T[args]` has this underlying type, where `T` is declared so over a pointer to its parameter.
+fn is_under_declared(
+    alloc: Global,
+    table: &mut TypeTable,
+    kind: u32,
+    args: &[TypeId],
+    wanted: TypeId,
+) -> Result<bool, TypeFault>
+    requires arguments { AreIds table.old args.now }
+    requires wanted { IsId table.old wanted }
+    ensures grows { Grows table.old table.new }
+{
+    let param = table.intern(alloc, TypeNode::Param(0))?;
+    let under = table.intern(alloc, TypeNode::Pointer(param))?;
+    let t = declared(alloc, table, name(alloc, b"T")?, args)?;
+    let decls = example(alloc, kind, param, under)?;
+    let mut env = ListEnv::new(Vec::new(alloc), decls);
+    is_under(alloc, &mut env, table, t, wanted)
+}
+
+// The underlying type of a defined type with its argument is that with the argument put in. With another number of
+// arguments, or declared as anything else, it is the empty struct.
 #[test]
 fn underlying_types(rt: HostRuntime) -> Result<(), Fail> {
     let alloc = rt.alloc();
     let mut table = TypeTable::new(alloc);
-    let param = table.intern(alloc, TypeNode::Param(0))?;
     let int = table.intern(alloc, TypeNode::Basic(Basic::Int))?;
-    let under = table.intern(alloc, TypeNode::Pointer(param))?;
     let pointer = table.intern(alloc, TypeNode::Pointer(int))?;
-    let t = declared(alloc, &mut table, name(alloc, b"T")?, &[int])?;
-    let decls = example(alloc, int, under)?;
-    let mut env = ListEnv::new(Vec::new(alloc), decls);
-    assert!(rt; is_under(alloc, &mut env, &mut table, t, pointer)?);
+    let empty = table.intern(alloc, TypeNode::Struct(Fields::new(Vec::new(alloc))))?;
+    for kind in 0..5 {
+        let wanted = if kind == 0 { pointer } else { empty };
+        assert!(rt; is_under_declared(alloc, &mut table, kind, &[int], wanted)?);
+        assert!(rt; is_under_declared(alloc, &mut table, kind, &[], empty)?);
+        assert!(rt; is_under_declared(alloc, &mut table, kind, &[int, int], empty)?);
+    }
     Ok(())
 }
 
