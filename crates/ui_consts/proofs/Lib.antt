@@ -1,8 +1,9 @@
-mod ConstantLemmas
-mod AddingLemmas
-mod SourceLemmas
-mod NumberLemmas
-mod SmallLemmas
-mod RecordLemmas
+mod ReadLaws
+mod ListLaws
+mod ReadSteps
+mod SpellingSizes
 mod WriteLemmas
 mod NumberingLemmas
+mod GrammarLemmas
+mod NumbersLemmas
+mod FileLemmas

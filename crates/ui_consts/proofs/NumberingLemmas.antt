@@ -1,329 +1,335 @@
 -- Strings and files that are given numbers.
-use Rattle.std.proofs.Common.{◌≡◌, ℕ, zero, suc, ◌+◌, ◌*◌, ◌^◌, ◌<◌, ◌≤◌, Bool, true, false, cond, List, [], ◌∷◌, ◌++◌, map, length, get_or, Some, Vec, refl, sym, ap, ◌∙◌, subst, arith, append_assoc}
-use Rattle.std.specs.Prelude.{bytes_eq, slice_get, nat_eq}
-use Rattle.std.specs.List.{AllByRecursion, IsDistinct, list_any, range_with_len}
-use Rattle.std.specs.List.Sorted.{IsStrictlySortedBy}
-use Rattle.std.specs.Cmp.Lexicographic.{pointwise, slice_cmp}
-use Rattle.std.specs.Ordering.{nat_cmp}
-use Rattle.std.specs.Map.Iter.{deref_pair}
-use Rattle.std.specs.FinMap.{entries, len-entries, from_entries}
-use Rattle.std.specs.declared.alloc.Global.{Global}
+use Rattle.std.proofs.Common.{◌≡◌, ℕ, zero, suc, ◌+◌, ◌*◌, ◌^◌, ◌<◌, ◌≤◌, Bool, true, false, cond, not, ◌&&◌, List, [], ◌∷◌, ◌++◌, map, take, length, get_or, Some, pos, negsuc, Vec, inl, inr, refl, sym, ap, ◌∙◌, subst, arith, append_assoc, lit≤}
+use Rattle.std.specs.Prelude.{bytes_eq, slice_get, slice_index, nat_eq, nat_le}
+use Rattle.std.specs.List.{AllByRecursion, IsDistinct, list_any}
+use Rattle.std.specs.Cmp.Lexicographic.{pointwise}
 use Rattle.std.proofs.Math.ListN.{get_or-append}
-use Rattle.std.proofs.lemmas.List.{append-nil, length-append, length-map, map-append}
-use Rattle.std.proofs.lemmas.List.FromFn.{length-range_with_len}
+use Rattle.std.proofs.lemmas.List.{append-nil, length-append, length-map, map-append, take_more}
 use Rattle.std.proofs.lemmas.Slice.Eq.{bytes_eq-Decides}
-use Rattle.std.proofs.lemmas.Bool.{eqb-true}
-use denote.Ref.{Bor}
+use Rattle.std.proofs.lemmas.Bool.{and_parts, cases_lt, eqb-true, leb-true, lt-ltb, le-leb, ne_eqb}
 use Rattle.indexmap.specs.IndexSet.{insert_key}
-use Rattle.ui_consts.specs.Export.{Declaration, Export}
-use Rattle.ui_consts.specs.Elements.{Elements, Entry}
-use Rattle.ui_consts.specs.Record.{IsEntry, declared_by, meaning, name_at, text_at}
-use Rattle.ui_consts.specs.Size.{IsSmall, IsSmallEntry}
-use Rattle.ui_consts.specs.Constants.{declaration, entry_of, declarations_of}
-use Rattle.ui_consts.specs.Numbering.{IsNumbered, IsPlace, Numbers, elements_of, entry, texts}
-use Rattle.ui_consts.specs.declared.package.Constant.{Constant}
+use Rattle.ui_base.specs.Paths.{is_path, is_reserved, has_segments}
+use Rattle.ui_strpos.specs.Elements.{is_some_text}
+use Rattle.ui_eobj.specs.Values.{is_big, magnitude, magnitude_from}
+use Rattle.ui_eobj.specs.declared.root.BelowEl.{BelowEl}
+use Rattle.ui_eobj.specs.declared.value.ValueEl.{ValueEl}
+use Rattle.ui_eobj.specs.declared.value.ValueEl.TheVariants as value
+use Rattle.std.specs.FinMap.{entries, len-entries}
+use Rattle.std.specs.List.Sorted.{IsStrictlySortedBy}
+use Rattle.std.specs.Ordering.{nat_cmp}
+use Rattle.std.specs.declared.cmp.Ordering.{Ordering}
+use Rattle.std.specs.Cmp.Lexicographic.{slice_cmp}
+use Rattle.std.specs.Map.Iter.{deref_pair}
+use Rattle.std.specs.declared.alloc.Global.{Global}
+use denote.Ref.{Bor}
+use Rattle.ui_exports.specs.Export.{Declaration, Export}
+use Rattle.ui_exports.specs.Constants.{declaration, entry_of, declarations_of}
+use Rattle.ui_exports.specs.Entries.{entries-declarations_of, names-entry_of}
+use Rattle.ui_exports.specs.declared.package.Constant.{Constant}
 use Rattle.ui_consts.specs.declared.numbered.Entry as rust
-use Rattle.ui_consts.specs.declared.numbered.Numbered.{Numbered}
-use Rattle.ui_consts.proofs.ConstantLemmas.{entries-declarations_of, names-entry_of}
+use Rattle.ui_exports.specs.Linked.{Below, below}
+use Rattle.ui_exports.specs.declared.linked.Below.{Below as Held}
+use Rattle.ui_consts.specs.Elements.{Entry}
+use Rattle.ui_consts.specs.Record.{text_of}
+use Rattle.ui_consts.specs.Size.{HasName, HasNames, IsBelow, IsSmallExport}
+use Rattle.ui_consts.specs.Numbering.{Grown, GrownFiles, IsPlace, IsValueOf, IsEntryOf, AreEntries, IsFile, NumbersConstants, IsBelowOf, AreBelow, NumbersBelow, IsMapOf, entry}
 
 -- ---- one text
 
-abbrev same_text : Bor (List ℕ) → Bor (List ℕ) → Bool
-same_text x y = pointwise nat_eq x.now y.now
+some_is : {X : Type 0} (x y : X) → Some x ≡ Some y → x ≡ y
+some_is x y h = cc
 
-texts-get : (ss : List (Bor (List ℕ))) (i : ℕ) (k : Bor (List ℕ)) → slice_get ss i ≡ Some k → get_or (texts ss) i [] ≡ k.now
-texts-get [] i k e = absurd cc
-texts-get (s ∷ ss) zero k e = ap (λ (x : Bor (List ℕ)). x.now) (some_is s k e)
+get_is : {X : Type 0} (xs : List X) (i : ℕ) (d k : X) → slice_get xs i ≡ Some k → get_or xs i d ≡ k
+get_is [] i d k e = absurd cc
+get_is (x ∷ xs) zero d k e = some_is x k e
+get_is (x ∷ xs) (suc i) d k e = get_is xs i d k e
+
+pub place_is : (old new : List (List ℕ)) (text key : List ℕ) (place : ℕ) → key ≡ text → place < length new → (k : List ℕ) × (slice_get new place ≡ Some k) × (pointwise nat_eq key k ≡ true) → IsPlace text place new
+place_is old new text key place same there stored = record { there = there; is = get_is new place [] stored.0 stored.1 ∙ sym ((bytes_eq-Decides key stored.0).0 stored.2) ∙ same }
+
+pub grown_is : (old new : List (List ℕ)) (key text : List ℕ) → key ≡ text → length text ≤ 4096 → new ≡ insert_key (pointwise nat_eq) old key → IsDistinct (pointwise nat_eq) new → Grown 1 old new
+grown_is old new key text same short is apart = by (list_any (pointwise nat_eq key) old) is
   where
-    some_is : (x y : Bor (List ℕ)) → Some x ≡ Some y → x ≡ y
-    some_is x y h = cc
-texts-get (s ∷ ss) (suc i) k e = texts-get ss i k e
+    by : (b : Bool) → new ≡ cond b old (old ++ key ∷ []) → Grown 1 old new
+    by true e = record { more = []; grown = e ∙ sym (append-nil old); few = lit≤ tt; short = tt; apart = λ h. apart }
+    by false e = record { more = key ∷ []; grown = e; few = lit≤ tt; short = (omega (arith, ap length same), tt); apart = λ h. apart }
 
-texts-apart : (ss : List (Bor (List ℕ))) → IsDistinct same_text ss → IsDistinct bytes_eq (texts ss)
-unfolding IsDistinct
-texts-apart [] h = tt
-texts-apart (s ∷ ss) h = (others s ss h.0, texts-apart ss h.1)
-  where
-    others : (s : Bor (List ℕ)) (xs : List (Bor (List ℕ))) → AllByRecursion (λ y. same_text s y ≡ false) xs → AllByRecursion (λ y. bytes_eq s.now y ≡ false) (texts xs)
-    others s [] k = tt
-    others s (x ∷ xs) k = (k.0, others s xs k.1)
+-- ---- more texts
 
-pub place-is : (old new : List (Bor (List ℕ))) (text : Bor (List ℕ)) (place : ℕ) → new ≡ insert_key same_text old text → place < length new → (k : Bor (List ℕ)) × (slice_get new place ≡ Some k) × (same_text text k ≡ true) → IsDistinct same_text new → IsPlace text.now place (texts old) (texts new)
-place-is old new text place is there stored apart = by (list_any (same_text text) old) is
-  where
-    found : get_or (texts new) place [] ≡ text.now
-    found = texts-get new place stored.0 stored.1 ∙ sym ((bytes_eq-Decides text.now stored.0.now).0 stored.2)
+pub all_append : {X : Type 0} (P : X → Type 0) (xs ys : List X) → AllByRecursion P xs → AllByRecursion P ys → AllByRecursion P (xs ++ ys)
+all_append P [] ys a b = b
+all_append P (x ∷ xs) ys a b = (a.0, all_append P xs ys a.1 b)
 
-    within : place < length (texts new)
-    within = omega (arith, length-map new (λ (s : Bor (List ℕ)). s.now))
+pub grown_none : (n : ℕ) (s t : List (List ℕ)) → t ≡ s → Grown n s t
+grown_none n s t e = record { more = []; grown = e ∙ sym (append-nil s); few = omega arith; short = tt; apart = λ h. subst (IsDistinct bytes_eq) (sym e) h }
 
-    by : (b : Bool) → new ≡ cond b old (old ++ text ∷ []) → IsPlace text.now place (texts old) (texts new)
-    by true e = record { more = []; grown = ap texts e ∙ sym (append-nil (texts old)); one = omega arith; only = tt; there = within; is = found; apart = texts-apart new apart }
-    by false e = record { more = text.now ∷ []; grown = ap texts e ∙ map-append (λ (s : Bor (List ℕ)). s.now) old (text ∷ []); one = omega arith; only = (refl, tt); there = within; is = found; apart = texts-apart new apart }
+pub grown_then : (n m k : ℕ) (s t u : List (List ℕ)) → n + m ≤ k → Grown n s t → Grown m t u → Grown k s u
+grown_then n m k s t u h a b = record {
+  more = a.more ++ b.more;
+  grown = b.grown ∙ ap (λ xs. xs ++ b.more) a.grown ∙ append_assoc s a.more b.more;
+  few = omega (arith, length-append a.more b.more, a.few, b.few);
+  short = all_append (λ text. length text ≤ 4096) a.more b.more a.short b.short;
+  apart = λ h. b.apart (a.apart h);
+}
 
--- ---- one constant
+pub longer : (n : ℕ) (s t : List (List ℕ)) → Grown n s t → length t ≤ length s + n
+longer n s t g = omega (arith, ap length g.grown, length-append s g.more, g.few)
 
-numbers-get : (ns : List ℕ) (i k : ℕ) → slice_get ns i ≡ Some k → get_or ns i 0 ≡ k
-numbers-get [] i k e = absurd cc
-numbers-get (n ∷ ns) zero k e = some_is n k e
-  where
-    some_is : (x y : ℕ) → Some x ≡ Some y → x ≡ y
-    some_is x y h = cc
-numbers-get (n ∷ ns) (suc i) k e = numbers-get ns i k e
+pub place_later : (n place : ℕ) (text : List ℕ) (s t : List (List ℕ)) → Grown n s t → IsPlace text place s → IsPlace text place t
+place_later n place text s t g p = record {
+  there = omega (arith, p.there, ap length g.grown, length-append s g.more);
+  is = ap (λ xs. get_or xs place []) g.grown ∙ get_or-append s g.more [] place p.there ∙ p.is;
+}
 
-record IsBase (file base : ℕ) (old new : List ℕ) : Type 0 where
-  files : List ℕ
-  grown : new ≡ old ++ files
-  one : length files ≤ 1
-  only : (limit : ℕ) → file < limit → AllByRecursion (λ f. f < limit) files
-  there : base < length new
-  is : get_or new base 0 ≡ file
+-- a text that is there stays
+stays : (n k : ℕ) (s t : List (List ℕ)) → Grown n s t → k < length s → (k < length t) × (get_or t k [] ≡ get_or s k [])
+stays n k s t g h = (omega (arith, ap length g.grown, length-append s g.more), ap (λ xs. get_or xs k []) g.grown ∙ get_or-append s g.more [] k h)
 
-base-is : (old new : List ℕ) (file base : ℕ) → new ≡ insert_key nat_eq old file → base < length new → (k : ℕ) × (slice_get new base ≡ Some k) × (nat_eq file k ≡ true) → IsBase file base old new
-base-is old new file base is there stored = by (list_any (nat_eq file) old) is
-  where
-    found : get_or new base 0 ≡ file
-    found = numbers-get new base stored.0 stored.1 ∙ sym (eqb-true file stored.0 stored.2)
+pub value_later : (n m : ℕ) (v : ValueEl) (s t : List (List ℕ)) → Grown n s t → IsValueOf s v m → IsValueOf t v m
+value_later n m (value.Int64 (pos k)) s t g h = h
+value_later n m (value.Int64 (negsuc k)) s t g h = absurd h
+value_later n m (value.Big k true) s t g h = absurd h
+value_later n m (value.Big k false) s t g h = (let k_stays = stays n k s t g h.0 in (k_stays.0, ap (is_big false) k_stays.1 ∙ h.1, ap magnitude k_stays.1 ∙ h.2))
 
-    by : (b : Bool) → new ≡ cond b old (old ++ file ∷ []) → IsBase file base old new
-    by true e = record { files = []; grown = e ∙ sym (append-nil old); one = omega arith; only = λ limit h. tt; there = there; is = found }
-    by false e = record { files = file ∷ []; grown = e; one = omega arith; only = λ limit h. (h, tt); there = there; is = found }
+pub file_later : (n : ℕ) (s t : List (List ℕ)) (files : List ℕ) → Grown n s t → AllByRecursion (IsFile s) files → AllByRecursion (IsFile t) files
+file_later n s t [] g h = tt
+file_later n s t (f ∷ fs) g h = (let f_stays = stays n f s t g h.0.0 in (f_stays.0, ap is_some_text f_stays.1 ∙ h.0.1), file_later n s t fs g h.1)
 
-all-append : {X : Type 0} (P : X → Type 0) (xs ys : List X) → AllByRecursion P xs → AllByRecursion P ys → AllByRecursion P (xs ++ ys)
-all-append P [] ys a b = b
-all-append P (x ∷ xs) ys a b = (a.0, all-append P xs ys a.1 b)
-
-all-short : (n : ℕ) (text : List ℕ) (xs : List (List ℕ)) → length text ≤ n → AllByRecursion (λ other. other ≡ text) xs → AllByRecursion (λ other. length other ≤ n) xs
-all-short n text [] h all = tt
-all-short n text (x ∷ xs) h all = (omega (arith, ap length all.0), all-short n text xs h all.1)
-
-pub numbered-is : (name : List ℕ) (d : Declaration) (e : Entry) (file : ℕ) (s0 s1 s2 : List (List ℕ)) (b0 b1 : List ℕ) → IsPlace d.file file s0 s1 → b1 ≡ insert_key nat_eq b0 file → e.base < length b1 → (k : ℕ) × (slice_get b1 e.base ≡ Some k) × (nat_eq file k ≡ true) → IsPlace name e.name s1 s2 → e.line ≡ d.line → e.column ≡ d.column → e.value ≡ d.value → IsNumbered name d e s0 s2 b0 b1
-numbered-is name d e file s0 s1 s2 b0 b1 a is there stored c line column value =
-    let b : IsBase file e.base b0 b1 = base-is b0 b1 file e.base is there stored in
-    let longer : length s1 ≤ length s2 = omega (arith, ap length c.grown, length-append s1 c.more) in
-    let file_is : get_or s2 (get_or b1 e.base 0) [] ≡ d.file = ap (λ k. get_or s2 k []) b.is ∙ ap (λ ss. get_or ss file []) c.grown ∙ get_or-append s1 c.more [] file a.there ∙ a.is in
+pub entry_later : (n : ℕ) (s t : List (List ℕ)) (bs more cs : List ℕ) (e : Entry) (d : List ℕ × Declaration) → Grown n s t → cs ≡ bs ++ more → IsEntryOf s bs e d → IsEntryOf t cs e d
+entry_later n s t bs more cs e d g grown is =
+    let base : get_or cs e.base 0 ≡ get_or bs e.base 0 = ap (λ xs. get_or xs e.base 0) grown ∙ get_or-append bs more 0 e.base is.base in
     record {
-      more = a.more ++ c.more;
-      grown = c.grown ∙ ap (λ ss. ss ++ c.more) a.grown ∙ append_assoc s0 a.more c.more;
-      two = omega (arith, length-append a.more c.more, a.one, c.one);
-      only = λ n hn hf. all-append (λ other. length other ≤ n) a.more c.more (all-short n d.file a.more hf a.only) (all-short n name c.more hn c.only);
-      files = b.files;
-      grown_bases = b.grown;
-      one = b.one;
-      there = b.only (length s2) (omega (arith, a.there));
-      apart = c.apart;
-      name_in = c.there;
-      base_in = b.there;
-      line = line;
-      column = column;
-      value = value;
-      means = λ i. (c.is i, record { file = file_is i; line = line i; column = column i; value = value i });
+      name = place_later n e.name d.0 s t g is.name;
+      base = omega (arith, is.base, ap length grown, length-append bs more);
+      file = subst (λ (k : ℕ). IsPlace d.1.file k t) (sym base) (place_later n (get_or bs e.base 0) d.1.file s t g is.file);
+      line = is.line;
+      column = is.column;
+      value = value_later n d.1.value e.value s t g is.value;
     }
 
--- ---- all of them
+pub entries_later : (n : ℕ) (s t : List (List ℕ)) (bs more cs : List ℕ) (es : List Entry) (ds : List (List ℕ × Declaration)) → Grown n s t → cs ≡ bs ++ more → AreEntries s bs es ds → AreEntries t cs es ds
+entries_later n s t bs more cs [] [] g grown h = tt
+entries_later n s t bs more cs [] (d ∷ ds) g grown h = absurd h
+entries_later n s t bs more cs (e ∷ es) [] g grown h = absurd h
+entries_later n s t bs more cs (e ∷ es) (d ∷ ds) g grown h = (entry_later n s t bs more cs e d g grown h.0, entries_later n s t bs more cs es ds g grown h.1)
 
-pub record IsSoFar (e : Export) (path name : ℕ) (strings : List (List ℕ)) (bases : List ℕ) (es : List Entry) (done : List (List ℕ × Declaration)) : Type 0 where
-  pub apart : IsDistinct bytes_eq strings
-  pub short : AllByRecursion (λ text. length text ≤ 4096) strings
-  pub few : length strings ≤ 2 + 2 * length es
-  pub few_bases : length bases ≤ length es
-  pub files : AllByRecursion (λ file. file < length strings) bases
-  pub all : AllByRecursion (IsEntry (length strings) (length bases)) es
-  pub means : map (declared_by strings bases) es ≡ done
-  pub path_in : path < length strings
-  pub path_is : get_or strings path [] ≡ e.path
-  pub name_in : name < length strings
-  pub name_is : get_or strings name [] ≡ e.name
+entries_push : (s : List (List ℕ)) (bs : List ℕ) (es : List Entry) (ds : List (List ℕ × Declaration)) (e : Entry) (d : List ℕ × Declaration) → AreEntries s bs es ds → IsEntryOf s bs e d → AreEntries s bs (es ++ e ∷ []) (ds ++ d ∷ [])
+entries_push s bs [] [] e d h is = (is, tt)
+entries_push s bs [] (x ∷ ds) e d h is = absurd h
+entries_push s bs (x ∷ es) [] e d h is = absurd h
+entries_push s bs (x ∷ es) (y ∷ ds) e d h is = (h.0, entries_push s bs es ds e d h.1 is)
 
-pub begun : (e : Export) (path name : ℕ) (s0 s1 s2 : List (List ℕ)) (b0 : List ℕ) → IsSmall e → s0 ≡ [] → b0 ≡ [] → IsPlace e.path path s0 s1 → IsPlace e.name name s1 s2 → IsSoFar e path name s2 b0 [] []
-begun e path name s0 s1 s2 b0 small empty no_bases a b =
-    let first : s1 ≡ a.more = a.grown ∙ ap (λ ss. ss ++ a.more) empty in
-    record {
-      apart = b.apart;
-      short = subst (AllByRecursion (λ text. length text ≤ 4096)) (sym (b.grown ∙ ap (λ ss. ss ++ b.more) first)) (all-append (λ text. length text ≤ 4096) a.more b.more (all-short 4096 e.path a.more (omega (arith, small.path)) a.only) (all-short 4096 e.name b.more (omega (arith, small.name)) b.only));
-      few = omega (arith, ap length b.grown, length-append s1 b.more, ap length first, a.one, b.one);
-      few_bases = omega (arith, ap length no_bases);
-      files = subst (AllByRecursion (λ file. file < length s2)) (sym no_bases) tt;
-      all = tt;
-      means = refl;
-      path_in = omega (arith, a.there, ap length b.grown, length-append s1 b.more);
-      path_is = ap (λ ss. get_or ss path []) b.grown ∙ get_or-append s1 b.more [] path a.there ∙ a.is;
-      name_in = b.there;
-      name_is = b.is;
-    }
+pub same_count : (s : List (List ℕ)) (bs : List ℕ) (es : List Entry) (ds : List (List ℕ × Declaration)) → AreEntries s bs es ds → length es ≡ length ds
+same_count s bs [] [] h = refl
+same_count s bs [] (d ∷ ds) h = absurd h
+same_count s bs (e ∷ es) [] h = absurd h
+same_count s bs (e ∷ es) (d ∷ ds) h = ap suc (same_count s bs es ds h.1)
 
-longer_files : (n m : ℕ) (fs : List ℕ) → n ≤ m → AllByRecursion (λ file. file < n) fs → AllByRecursion (λ file. file < m) fs
-longer_files n m [] h all = tt
-longer_files n m (f ∷ fs) h all = (omega (arith, all.0), longer_files n m fs h all.1)
+-- ---- a value
 
-longer_entries : (n m k l : ℕ) (es : List Entry) → n ≤ m → k ≤ l → AllByRecursion (IsEntry n k) es → AllByRecursion (IsEntry m l) es
-longer_entries n m k l [] h g all = tt
-longer_entries n m k l (e ∷ es) h g all =
-    (record { name = omega (arith, all.0.name); base = omega (arith, all.0.base); line = all.0.line; line_fits = all.0.line_fits; column = all.0.column; column_fits = all.0.column_fits; value = all.0.value }, longer_entries n m k l es h g all.1)
+times : ℕ → ℕ → ℕ
+times zero n = n
+times (suc k) n = times k (256 * n)
 
-file_at : (n : ℕ) (bases : List ℕ) (k : ℕ) → AllByRecursion (λ file. file < n) bases → k < length bases → get_or bases k 0 < n
-file_at n [] k all h = absurd (omega arith)
-file_at n (f ∷ fs) zero all h = all.0
-file_at n (f ∷ fs) (suc k) all h = file_at n fs k all.1 (omega arith)
+times_more : (k n m : ℕ) → n ≤ m → times k n ≤ times k m
+unfolding times
+times_more zero n m h = h
+times_more (suc k) n m h = times_more k (256 * n) (256 * m) (omega arith)
 
-same_meaning : (strings more : List (List ℕ)) (bases files : List ℕ) (e : Entry) → AllByRecursion (λ file. file < length strings) bases → IsEntry (length strings) (length bases) e → declared_by (strings ++ more) (bases ++ files) e ≡ declared_by strings bases e
-same_meaning strings more bases files e in_strings is =
-    let base : get_or (bases ++ files) e.base 0 ≡ get_or bases e.base 0 = get_or-append bases files 0 e.base is.base in
-    let name : get_or (strings ++ more) e.name [] ≡ get_or strings e.name [] = get_or-append strings more [] e.name is.name in
-    let file : get_or (strings ++ more) (get_or (bases ++ files) e.base 0) [] ≡ get_or strings (get_or bases e.base 0) [] =
-    ap (λ k. get_or (strings ++ more) k []) base ∙ get_or-append strings more [] (get_or bases e.base 0) (file_at (length strings) bases e.base in_strings is.base) in
-    λ i. (name i, record { file = file i; line = e.line; column = e.column; value = e.value })
+times_le : (k n : ℕ) (bytes : List ℕ) → k ≤ length bytes → times k n ≤ magnitude_from n bytes
+unfolding times magnitude_from
+times_le zero n [] h = omega arith
+times_le zero n (b ∷ bs) h = omega (arith, times_le zero (256 * n + b) bs (omega arith))
+times_le (suc k) n [] h = absurd (omega arith)
+times_le (suc k) n (b ∷ bs) h = omega (arith, times_more k (256 * n) (256 * n + b) (omega arith), times_le k (256 * n + b) bs (omega arith))
 
-same_meanings : (strings more : List (List ℕ)) (bases files : List ℕ) (es : List Entry) → AllByRecursion (λ file. file < length strings) bases → AllByRecursion (IsEntry (length strings) (length bases)) es → map (declared_by (strings ++ more) (bases ++ files)) es ≡ map (declared_by strings bases) es
-same_meanings strings more bases files [] in_strings all = refl
-same_meanings strings more bases files (e ∷ es) in_strings all = λ i. same_meaning strings more bases files e in_strings all.0 i ∷ same_meanings strings more bases files es in_strings all.1 i
+sixteen : times 16 1 ≡ 2 ^ 128
+unfolding times
+sixteen = refl
 
-pub one_more : (x : Export) (path name : ℕ) (s0 s1 : List (List ℕ)) (b0 b1 : List ℕ) (es : List Entry) (e : Entry) (done : List (List ℕ × Declaration)) (text : List ℕ) (d : Declaration) → IsSoFar x path name s0 b0 es done → IsNumbered text d e s0 s1 b0 b1 → IsSmallEntry (text, d) → IsSoFar x path name s1 b1 (es ++ e ∷ []) (done ++ (text, d) ∷ [])
-one_more x path name s0 s1 b0 b1 es e done text d so_far is small =
-    let longer : length s0 ≤ length s1 = omega (arith, ap length is.grown, length-append s0 is.more) in
-    let more_bases : length b0 ≤ length b1 = omega (arith, ap length is.grown_bases, length-append b0 is.files) in
-    let new : IsEntry (length s1) (length b1) e = record { name = is.name_in; base = is.base_in; line = omega (arith, is.line, small.line); line_fits = omega (arith, is.line, small.line_fits); column = omega (arith, is.column, small.column); column_fits = omega (arith, is.column, small.column_fits); value = omega (arith, is.value, small.value) } in
-    let old : map (declared_by s1 b1) es ≡ done =
-    ap (λ ss. map (declared_by ss b1) es) is.grown ∙ ap (λ bs. map (declared_by (s0 ++ is.more) bs) es) is.grown_bases ∙ same_meanings s0 is.more b0 is.files es so_far.files so_far.all ∙ so_far.means in
-    record {
-      apart = is.apart;
-      short = subst (AllByRecursion (λ t. length t ≤ 4096)) (sym is.grown) (all-append (λ t. length t ≤ 4096) s0 is.more so_far.short (is.only 4096 small.name (omega (arith, small.file))));
-      few = omega (arith, ap length is.grown, length-append s0 is.more, is.two, so_far.few, length-append es (e ∷ []));
-      few_bases = omega (arith, ap length is.grown_bases, length-append b0 is.files, is.one, so_far.few_bases, length-append es (e ∷ []));
-      files = subst (AllByRecursion (λ file. file < length s1)) (sym is.grown_bases) (all-append (λ file. file < length s1) b0 is.files (longer_files (length s0) (length s1) b0 longer so_far.files) is.there);
-      all = all-append (IsEntry (length s1) (length b1)) es (e ∷ []) (longer_entries (length s0) (length s1) (length b0) (length b1) es longer more_bases so_far.all) (new, tt);
-      means = map-append (declared_by s1 b1) es (e ∷ []) ∙ (λ i. old i ++ is.means i ∷ []);
-      path_in = omega (arith, so_far.path_in);
-      path_is = ap (λ ss. get_or ss path []) is.grown ∙ get_or-append s0 is.more [] path so_far.path_in ∙ so_far.path_is;
-      name_in = omega (arith, so_far.name_in);
-      name_is = ap (λ ss. get_or ss name []) is.grown ∙ get_or-append s0 is.more [] name so_far.name_in ∙ so_far.name_is;
-    }
-
--- ---- the numbered package
-
-in_order : (n : ℕ) (a : ℕ) (limit : ℕ) → a + n ≤ limit → AllByRecursion (λ place. place < limit) (range_with_len a n)
-in_order zero a limit h = tt
-in_order (suc n) a limit h = (omega arith, in_order n (a + 1) limit (omega arith))
-
-whole_from : (xs : List (List ℕ)) (front : List (List ℕ)) (a : ℕ) → a ≡ length front → map (λ place. get_or (front ++ xs) place []) (range_with_len a (length xs)) ≡ xs
-whole_from [] front a e = refl
-whole_from (x ∷ xs) front a e =
-    let first : get_or (front ++ x ∷ xs) a [] ≡ x = ap (λ k. get_or (front ++ x ∷ xs) k []) e ∙ seam front in
-    let regroup : front ++ x ∷ xs ≡ (front ++ x ∷ []) ++ xs = sym (append_assoc front (x ∷ []) xs) in
-    let rest : map (λ place. get_or (front ++ x ∷ xs) place []) (range_with_len (a + 1) (length xs)) ≡ xs =
-    ap (λ ys. map (λ place. get_or ys place []) (range_with_len (a + 1) (length xs))) regroup ∙ whole_from xs (front ++ x ∷ []) (a + 1) (omega (arith, length-append front (x ∷ []))) in
-    λ i. first i ∷ rest i
+pub magnitude_short : (bytes : List ℕ) (n : ℕ) → magnitude bytes ≡ n → (slice_index bytes 0 ≡ 0 → ⊥) → n < 2 ^ 127 → length bytes ≤ 4096
+unfolding magnitude_from
+magnitude_short [] n is first small = lit≤ tt
+magnitude_short (b ∷ bs) n is first small = elim (cases_lt (length bs) 16) [
+  | inl le ↦ omega arith
+  | inr gt ↦
+      let least : times 16 1 ≤ times 16 (256 * 0 + b) = times_more 16 1 (256 * 0 + b) (at_least_one b first) in
+      let most : times 16 (256 * 0 + b) ≤ magnitude_from (256 * 0 + b) bs = times_le 16 (256 * 0 + b) bs (omega arith) in
+      absurd (omega (arith, least, most, is, sixteen))
+]
   where
-    seam : (ys : List (List ℕ)) → get_or (ys ++ x ∷ xs) (length ys) [] ≡ x
-    seam [] = refl
-    seam (y ∷ ys) = seam ys
+    at_least_one : (k : ℕ) → (k ≡ 0 → ⊥) → 1 ≤ 256 * 0 + k
+    at_least_one zero h = absurd (h refl)
+    at_least_one (suc k) h = omega arith
 
-whole : (xs : List (List ℕ)) → map (λ place. get_or xs place []) (range_with_len 0 (length xs)) ≡ xs
-whole xs = whole_from xs [] 0 refl
+pub big_is : (bytes : List ℕ) (n : ℕ) → magnitude bytes ≡ n → (slice_index bytes 0 ≡ 0 → ⊥) → 2 ^ 63 ≤ n → n < 2 ^ 127 → is_big false bytes ≡ true
+big_is bytes n is first low high =
+    rw (ne_eqb (slice_index bytes 0) 0 first, is, le-leb (2 ^ 63) n low, lt-ltb n (2 ^ 127) high) refl
 
-firsts : (strings : List (List ℕ)) (bases : List ℕ) (es : List Entry) → map (λ p. p.0) (map (declared_by strings bases) es) ≡ map (λ e. get_or strings e.name []) es
-firsts strings bases [] = refl
-firsts strings bases (e ∷ es) = ap (λ (ys : List (List ℕ)). get_or strings e.name [] ∷ ys) (firsts strings bases es)
+pub value_is : (bytes text : List ℕ) (n k : ℕ) (s : List (List ℕ)) → text ≡ bytes → magnitude bytes ≡ n → (slice_index bytes 0 ≡ 0 → ⊥) → 2 ^ 63 ≤ n → n < 2 ^ 127 → IsPlace text k s → IsValueOf s (value.Big k false) n
+value_is bytes text n k s same is first low high p =
+    let at : text_of s k ≡ bytes = p.is ∙ same in
+    (p.there, ap (is_big false) at ∙ big_is bytes n is first low high, ap magnitude at ∙ is)
 
-values-small : (n k : ℕ) (es : List rust.Entry) → AllByRecursion (IsEntry n k) (map entry es) → AllByRecursion (λ c. c.value < 2 ^ 63) es
-values-small n k [] all = tt
-values-small n k (e ∷ es) all = (all.0.value, values-small n k es all.1)
+-- ---- a file
 
--- the constants of a package, by the map that holds them
-abbrev Kept : Type 0
-Kept = List (Vec ℕ Global × Constant)
-
-pub numbers-is : (n : Numbered) (e : Export) (kept : Kept) → IsSmall e → e.decls ≡ declarations_of kept → IsStrictlySortedBy (λ (x y : Vec ℕ Global). slice_cmp nat_cmp x.items y.items) (map (λ p. p.0) kept) → IsSoFar e n.path n.name (texts n.strings.items) n.bases.items (map entry n.entries.items) (map entry_of kept) → Numbers n e
-unfolding meaning declarations_of
-numbers-is n e kept small decls sorted so_far =
-    let x : Elements = elements_of n in
-    let es : List Entry = map entry n.entries.items in
-    let kept_is : entries e.decls ≡ map entry_of kept = ap entries decls ∙ entries-declarations_of kept sorted in
-    let count : length es ≡ length (map entry_of kept) = sym (length-map es (declared_by x.strings x.bases)) ∙ ap length so_far.means in
-    let few : length es ≤ 4096 = omega (arith, small.few, len-entries e.decls, ap length kept_is) in
-    let same_count : length n.entries.items ≡ length es = sym (length-map n.entries.items entry) in
-    let same_strings : length n.strings.items ≡ length (texts n.strings.items) = sym (length-map n.strings.items (λ (s : Bor (List ℕ)). s.now)) in
-    let names : map (λ c. text_at x c.name) es ≡ map (λ p. p.0) (map entry_of kept) = sym (firsts x.strings x.bases es) ∙ ap (map (λ p. p.0)) so_far.means in
-    let name_count : length n.entries.items ≡ length (map (λ c. text_at x c.name) es) = same_count ∙ sym (length-map es (λ c. text_at x c.name)) in
-    let listed : map (name_at x) x.order ≡ map (λ p. p.0) (map entry_of kept) = ap (λ k. map (name_at x) (range_with_len 0 k)) name_count ∙ whole (map (λ c. text_at x c.name) es) ∙ names in
-    record {
-      fits = record {
-        strings_fit = omega (arith, so_far.few);
-        bases_fit = omega (arith, so_far.few_bases);
-        apart = so_far.apart;
-        path = so_far.path_in;
-        name = so_far.name_in;
-        bases = so_far.files;
-        entries = so_far.all;
-        all = length-range_with_len 0 (length n.entries.items) ∙ same_count;
-        order = in_order (length n.entries.items) 0 (length es) (omega arith);
-        ascending = subst (IsStrictlySortedBy (slice_cmp nat_cmp)) (sym listed) (names-entry_of kept sorted);
-      };
-      means = λ i. record { path = so_far.path_is i; name = so_far.name_is i; decls = (ap (from_entries {R = slice_cmp nat_cmp}) so_far.means ∙ sym decls) i };
-      strings = omega (arith, so_far.few);
-      short = so_far.short;
-      bases = omega (arith, so_far.few_bases);
-      few = omega arith;
-      values = values-small (length x.strings) (length x.bases) n.entries.items so_far.all;
-    }
-
--- the next constant is small
-pub small_at : (e : Export) (kept : Kept) (k : ℕ) (p : Vec ℕ Global × Constant) → IsSmall e → e.decls ≡ declarations_of kept → IsStrictlySortedBy (λ (x y : Vec ℕ Global). slice_cmp nat_cmp x.items y.items) (map (λ q. q.0) kept) → slice_get kept k ≡ Some p → IsSmallEntry (entry_of p)
-small_at e kept k p small decls sorted found = at kept k (subst (AllByRecursion IsSmallEntry) (ap entries decls ∙ entries-declarations_of kept sorted) small.entries) found
+pub files_is : (file text : List ℕ) (place : ℕ) (s : List (List ℕ)) (old new : List ℕ) → text ≡ file → new ≡ insert_key nat_eq old place → IsPlace text place s → GrownFiles file s old new
+files_is file text place s old new same is p = by (list_any (nat_eq place) old) is
   where
-    some_is : (x y : Vec ℕ Global × Constant) → Some x ≡ Some y → x ≡ y
-    some_is x y h = cc
+    by : (b : Bool) → new ≡ cond b old (old ++ place ∷ []) → GrownFiles file s old new
+    by true e = record { more = []; grown = e ∙ sym (append-nil old); few = lit≤ tt; files = tt }
+    by false e = record { more = place ∷ []; grown = e; few = lit≤ tt; files = (subst (λ (t : List ℕ). IsPlace t place s) same p, tt) }
 
-    at : (ps : Kept) (i : ℕ) → AllByRecursion IsSmallEntry (map entry_of ps) → slice_get ps i ≡ Some p → IsSmallEntry (entry_of p)
-    at [] i all h = absurd cc
-    at (q ∷ qs) zero all h = subst (λ r. IsSmallEntry (entry_of r)) (some_is q p h) all.0
-    at (q ∷ qs) (suc i) all h = at qs i all.1 h
+pub base_is : (file : List ℕ) (place base : ℕ) (s : List (List ℕ)) (new : List ℕ) → (k : ℕ) × (slice_get new base ≡ Some k) × (nat_eq place k ≡ true) → IsPlace file place s → IsPlace file (get_or new base 0) s
+base_is file place base s new stored p =
+    let same : get_or new base 0 ≡ place = get_is new base 0 stored.0 stored.1 ∙ sym (eqb-true place stored.0 stored.2) in
+    subst (λ (k : ℕ). IsPlace file k s) (sym same) p
 
--- there are few constants
-pub few_kept : (e : Export) (kept : Kept) → IsSmall e → e.decls ≡ declarations_of kept → IsStrictlySortedBy (λ (x y : Vec ℕ Global). slice_cmp nat_cmp x.items y.items) (map (λ q. q.0) kept) → length kept ≤ 4096
-few_kept e kept small decls sorted = omega (arith, small.few, len-entries e.decls, ap length (ap entries decls ∙ entries-declarations_of kept sorted), length-map kept entry_of)
+pub files_later : (n : ℕ) (file : List ℕ) (s t : List (List ℕ)) (old new : List ℕ) → Grown n s t → GrownFiles file s old new → GrownFiles file t old new
+files_later n file s t old new g f = record { more = f.more; grown = f.grown; few = f.few; files = all f.more f.files }
+  where
+    all : (fs : List ℕ) → AllByRecursion (λ k. IsPlace file k s) fs → AllByRecursion (λ k. IsPlace file k t) fs
+    all [] h = tt
+    all (k ∷ ks) h = (place_later n k file s t g h.0, all ks h.1)
 
--- there is room for more strings and files
-pub room_for : (e : Export) (path name : ℕ) (ss : List (Bor (List ℕ))) (bases : List ℕ) (es : List Entry) (done : List (List ℕ × Declaration)) → IsSoFar e path name (texts ss) bases es done → length done ≤ 4096 → (length ss < 2 ^ 30) × (length bases < 2 ^ 30)
-room_for e path name ss bases es done so_far few =
-    let count : length es ≡ length done = sym (length-map es (declared_by (texts ss) bases)) ∙ ap length so_far.means in
-    let same : length (texts ss) ≡ length ss = length-map ss (λ (s : Bor (List ℕ)). s.now) in
-    (omega (arith, so_far.few), omega (arith, so_far.few_bases))
+-- ---- a constant
+
+pub entry_is : (name : List ℕ) (d : Declaration) (e : Entry) (file : List ℕ) (s1 s2 s3 : List (List ℕ)) (bs : List ℕ) → file ≡ d.file → Grown 1 s1 s2 → Grown 1 s2 s3 → e.base < length bs → IsPlace file (get_or bs e.base 0) s1 → IsPlace name e.name s2 → IsValueOf s3 e.value d.value → e.line ≡ d.line → e.column ≡ d.column → IsEntryOf s3 bs e (name, d)
+entry_is name d e file s1 s2 s3 bs same g h base at named valued line column = record {
+  name = place_later 1 e.name name s2 s3 h named;
+  base = base;
+  file = subst (λ (t : List ℕ). IsPlace t (get_or bs e.base 0) s3) same (place_later 1 (get_or bs e.base 0) file s2 s3 h (place_later 1 (get_or bs e.base 0) file s1 s2 g at));
+  line = line;
+  column = column;
+  value = valued;
+}
+
+-- ---- constants so far
+
+pub constants_none : (s : List (List ℕ)) (es : List Entry) (bs : List ℕ) → es ≡ [] → bs ≡ [] → NumbersConstants [] es bs s s
+constants_none s es bs none no_bases = record {
+  texts = grown_none 0 s s refl;
+  entries = subst (λ xs. AreEntries s bs xs []) (sym none) tt;
+  files = subst (AllByRecursion (IsFile s)) (sym no_bases) tt;
+  few = omega (arith, ap length no_bases);
+}
+
+new_files : (name : List ℕ) (s : List (List ℕ)) (fs : List ℕ) → is_some_text name ≡ true → AllByRecursion (λ k. IsPlace name k s) fs → AllByRecursion (IsFile s) fs
+new_files name s [] some h = tt
+new_files name s (f ∷ fs) some h = ((h.0.there, ap is_some_text h.0.is ∙ some), new_files name s fs some h.1)
+
+pub constants_more : (ds : List (List ℕ × Declaration)) (es : List Entry) (bs cs : List ℕ) (s t u : List (List ℕ)) (e : Entry) (d : List ℕ × Declaration) → is_some_text d.1.file ≡ true → NumbersConstants ds es bs s t → Grown 3 t u → GrownFiles d.1.file u bs cs → IsEntryOf u cs e d → NumbersConstants (ds ++ d ∷ []) (es ++ e ∷ []) cs s u
+constants_more ds es bs cs s t u e d some so_far g f is = record {
+  texts = grown_then (3 * length ds) 3 (3 * length (ds ++ d ∷ [])) s t u (omega (arith, length-append ds (d ∷ []))) so_far.texts g;
+  entries = entries_push u cs es ds e d (entries_later 3 t u bs f.more cs es ds g f.grown so_far.entries) is;
+  files = subst (AllByRecursion (IsFile u)) (sym f.grown) (all_append (IsFile u) bs f.more (file_later 3 t u bs g so_far.files) (new_files d.1.file u f.more some f.files));
+  few = omega (arith, so_far.few, ap length f.grown, length-append bs f.more, f.few, length-append ds (d ∷ []));
+}
+
+-- ---- packages below
+
+pub path_short : (path : List ℕ) → is_path path ≡ true → length path ≤ 4096
+unfolding is_path
+path_short path h = omega (arith, leb-true (length path) 255 (and_parts (nat_le (length path) 255) (not (is_reserved path)) (and_parts (nat_le (length path) 255 && not (is_reserved path)) (has_segments path) h).0).0)
+
+pub below_later : (n : ℕ) (s t : List (List ℕ)) (bs : List BelowEl) (ds : List Below) → Grown n s t → AreBelow s bs ds → AreBelow t bs ds
+below_later n s t [] [] g h = tt
+below_later n s t [] (d ∷ ds) g h = absurd h
+below_later n s t (b ∷ bs) [] g h = absurd h
+below_later n s t (b ∷ bs) (d ∷ ds) g h = (record { path = place_later n b.path d.path s t g h.0.path; print = place_later n b.print d.print s t g h.0.print; direct = h.0.direct }, below_later n s t bs ds g h.1)
+
+below_push : (s : List (List ℕ)) (bs : List BelowEl) (ds : List Below) (b : BelowEl) (d : Below) → AreBelow s bs ds → IsBelowOf s b d → AreBelow s (bs ++ b ∷ []) (ds ++ d ∷ [])
+below_push s [] [] b d h is = (is, tt)
+below_push s [] (x ∷ ds) b d h is = absurd h
+below_push s (x ∷ bs) [] b d h is = absurd h
+below_push s (x ∷ bs) (y ∷ ds) b d h is = (h.0, below_push s bs ds b d h.1 is)
+
+pub below_none : (s : List (List ℕ)) (bs : List BelowEl) → bs ≡ [] → NumbersBelow [] bs s s
+below_none s bs none = record { texts = grown_none 0 s s refl; below = subst (λ xs. AreBelow s xs []) (sym none) tt }
+
+pub below_more : (ds : List Held) (i : ℕ) (bs new : List BelowEl) (s t u : List (List ℕ)) (b : BelowEl) (d x : Held) → i < length ds → d ≡ get_or ds i x → new ≡ bs ++ b ∷ [] → NumbersBelow (map below (take i ds)) bs s t → Grown 2 t u → IsBelowOf u b (below d) → NumbersBelow (map below (take (i + 1) ds)) new s u
+below_more ds i bs new s t u b d x h at pushed so_far g is =
+    let more : map below (take (i + 1) ds) ≡ map below (take i ds) ++ below d ∷ [] = ap (map below) (take_more ds i x h ∙ ap (λ y. take i ds ++ y ∷ []) (sym at)) ∙ map-append below (take i ds) (d ∷ []) in
+    subst (λ (xs : List Below). NumbersBelow xs new s u) (sym more) (subst (λ (ys : List BelowEl). NumbersBelow (map below (take i ds) ++ below d ∷ []) ys s u) (sym pushed)
+    (record {
+      texts = grown_then (2 * length (map below (take i ds))) 2 (2 * length (map below (take i ds) ++ below d ∷ [])) s t u (omega (arith, length-append (map below (take i ds)) (below d ∷ []))) so_far.texts g;
+      below = below_push u bs (map below (take i ds)) b (below d) (below_later 2 t u bs (map below (take i ds)) g so_far.below) is;
+    }))
+
+pub below_room : (ds : List Held) (i : ℕ) (bs : List BelowEl) (s t : List (List ℕ)) → length s ≤ 2 ^ 14 → length ds ≤ 1024 → i < length ds → NumbersBelow (map below (take i ds)) bs s t → length t < 2 ^ 30
+below_room ds i bs s t room few h so_far = omega (arith, longer _ s t so_far.texts, length-map (take i ds) below, length-take-le i ds)
+  where
+    length-take-le : (k : ℕ) (xs : List Held) → length (take k xs) ≤ k
+    length-take-le zero xs = omega arith
+    length-take-le (suc k) [] = omega arith
+    length-take-le (suc k) (x ∷ xs) = omega (arith, length-take-le k xs)
+
+pub below_at : (ds : List Held) (i : ℕ) (d x : Held) → AllByRecursion IsBelow (map below ds) → i < length ds → d ≡ get_or ds i x → IsBelow (below d)
+below_at [] i d x all h e = absurd (omega arith)
+below_at (y ∷ ds) zero d x all h e = subst (λ (z : Held). IsBelow (below z)) (sym e) all.0
+below_at (y ∷ ds) (suc i) d x all h e = below_at ds i d x all.1 (omega arith) e
+
+pub below_all : (ds : List Held) (i : ℕ) (bs : List BelowEl) (s t : List (List ℕ)) → i ≡ length ds → NumbersBelow (map below (take i ds)) bs s t → NumbersBelow (map below ds) bs s t
+below_all ds i bs s t e h = subst (λ (xs : List Held). NumbersBelow (map below xs) bs s t) (whole ds i (omega arith)) h
+  where
+    whole : (xs : List Held) (k : ℕ) → length xs ≤ k → take k xs ≡ xs
+    whole [] zero g = refl
+    whole [] (suc k) g = refl
+    whole (x ∷ xs) zero g = absurd (omega arith)
+    whole (x ∷ xs) (suc k) g = ap (λ ys. x ∷ ys) (whole xs k (omega arith))
 
 -- ---- the loop over the map
+
+abbrev Kept : Type 0
+Kept = List (Vec ℕ Global × Constant)
 
 abbrev Item : Type 0
 Item = Bor (Vec ℕ Global) × Bor Constant
 
-abbrev shown : Item → List ℕ × Declaration
+abbrev pub shown : Item → List ℕ × Declaration
 shown p = entry_of (deref_pair p)
+
+abbrev ByName : Vec ℕ Global → Vec ℕ Global → Ordering
+ByName x y = slice_cmp nat_cmp x.items y.items
 
 shown-map : (ps : List Item) → map shown ps ≡ map entry_of (map deref_pair ps)
 shown-map [] = refl
 shown-map (p ∷ ps) = ap (λ (qs : List (List ℕ × Declaration)). shown p ∷ qs) (shown-map ps)
 
--- what the loop begins with
-pub loop-begun : (e : Export) (path name : ℕ) (p q : List ℕ) (ss : List (Bor (List ℕ))) (s1 s2 : List (List ℕ)) (b0 : List ℕ) (es : List rust.Entry) → IsSmall e → ss ≡ [] → b0 ≡ [] → es ≡ [] → p ≡ e.path → q ≡ e.name → IsPlace p path (texts ss) s1 → IsPlace q name s1 s2 → IsSoFar e path name s2 b0 (map entry es) []
-loop-begun e path name p q ss s1 s2 b0 es small none no_bases no_entries is_path is_name a b =
-    subst (λ (xs : List Entry). IsSoFar e path name s2 b0 xs []) (sym (ap (map entry) no_entries))
-    (begun e path name (texts ss) s1 s2 b0 small (ap texts none) no_bases (subst (λ (t : List ℕ). IsPlace t path (texts ss) s1) is_path a) (subst (λ (t : List ℕ). IsPlace t name s1 s2) is_name b))
+kept_is : (e : Export) (kept : Kept) → declarations_of kept ≡ e.decls → IsStrictlySortedBy (λ (x y : Vec ℕ Global). slice_cmp nat_cmp x.items y.items) (map (λ q. q.0) kept) → entries e.decls ≡ map entry_of kept
+kept_is e kept decls sorted = ap entries (sym decls) ∙ entries-declarations_of kept sorted
 
-pub loop-room : (e : Export) (path name : ℕ) (ss : List (Bor (List ℕ))) (bases : List ℕ) (es : List Entry) (kept : Kept) (ps : List Item) → IsSmall e → e.decls ≡ declarations_of kept → IsStrictlySortedBy (λ (x y : Vec ℕ Global). slice_cmp nat_cmp x.items y.items) (map (λ q. q.0) kept) → length ps < length kept → IsSoFar e path name (texts ss) bases es (map shown ps) → (length ss < 2 ^ 30) × (length bases < 2 ^ 30)
-loop-room e path name ss bases es kept ps small decls sorted h so_far =
-    let few = few_kept e kept small decls sorted in
-    room_for e path name ss bases es (map shown ps) so_far (omega (arith, length-map ps shown))
+pub item_at : (P : List ℕ × Declaration → Type 0) (e : Export) (kept : Kept) (k : ℕ) (p : Item) (text : List ℕ) → AllByRecursion P (entries e.decls) → declarations_of kept ≡ e.decls → IsStrictlySortedBy (λ (x y : Vec ℕ Global). slice_cmp nat_cmp x.items y.items) (map (λ q. q.0) kept) → slice_get kept k ≡ Some (deref_pair p) → text ≡ p.0.now.items → P (text, declaration p.1.now)
+item_at P e kept k p text all decls sorted found same =
+    subst (λ (t : List ℕ). P (t, declaration p.1.now)) (sym same) (at kept k (subst (AllByRecursion P) (kept_is e kept decls sorted) all) found)
+  where
+    at : (ps : Kept) (i : ℕ) → AllByRecursion P (map entry_of ps) → slice_get ps i ≡ Some (deref_pair p) → P (shown p)
+    at [] i all h = absurd cc
+    at (q ∷ qs) zero all h = subst (λ r. P (entry_of r)) (some_is q (deref_pair p) h) all.0
+    at (q ∷ qs) (suc i) all h = at qs i all.1 h
 
-pub loop-next : (e : Export) (path name : ℕ) (s0 s1 : List (List ℕ)) (b0 b1 : List ℕ) (es new : List rust.Entry) (x : rust.Entry) (kept : Kept) (ps : List Item) (p : Item) (text : List ℕ) → IsSmall e → e.decls ≡ declarations_of kept → IsStrictlySortedBy (λ (x y : Vec ℕ Global). slice_cmp nat_cmp x.items y.items) (map (λ q. q.0) kept) → slice_get kept (length ps) ≡ Some (deref_pair p) → text ≡ p.0.now.items → new ≡ es ++ x ∷ [] → IsNumbered text (declaration p.1.now) (entry x) s0 s1 b0 b1 → IsSoFar e path name s0 b0 (map entry es) (map shown ps) → IsSoFar e path name s1 b1 (map entry new) (map shown (ps ++ p ∷ []))
-loop-next e path name s0 s1 b0 b1 es new x kept ps p text small decls sorted found named pushed is so_far =
-    let next : IsSoFar e path name s1 b1 (map entry es ++ entry x ∷ []) (map shown ps ++ shown p ∷ []) =
-    one_more e path name s0 s1 b0 b1 (map entry es) (entry x) (map shown ps) p.0.now.items (declaration p.1.now) so_far
-    (subst (λ (t : List ℕ). IsNumbered t (declaration p.1.now) (entry x) s0 s1 b0 b1) named is) (small_at e kept (length ps) (deref_pair p) small decls sorted found) in
-    subst (λ (xs : List Entry). IsSoFar e path name s1 b1 xs (map shown (ps ++ p ∷ []))) (sym (ap (map entry) pushed ∙ map-append entry es (x ∷ [])))
-    (subst (λ (ds : List (List ℕ × Declaration)). IsSoFar e path name s1 b1 (map entry es ++ entry x ∷ []) ds) (sym (map-append shown ps (p ∷ []))) next)
+pub loop_room : (e : Export) (kept : Kept) (ps : List Item) (es : List Entry) (bs : List ℕ) (s t : List (List ℕ)) → IsSmallExport e → declarations_of kept ≡ e.decls → IsStrictlySortedBy (λ (x y : Vec ℕ Global). slice_cmp nat_cmp x.items y.items) (map (λ q. q.0) kept) → length ps < length kept → length s ≤ 2 → NumbersConstants (map shown ps) es bs s t → (length t < 2 ^ 30) × (length bs < 2 ^ 30)
+loop_room e kept ps es bs s t small decls sorted h room so_far =
+    let few : length kept ≤ 4096 = omega (arith, small.few, len-entries e.decls, ap length (kept_is e kept decls sorted), length-map kept entry_of) in
+    let count = length-map ps shown in
+    (omega (arith, longer (3 * length (map shown ps)) s t so_far.texts), omega (arith, so_far.few))
 
-pub loop-end : (n : Numbered) (e : Export) (ss : List (Bor (List ℕ))) (bs : List ℕ) (kept : Kept) (ps : List Item) → IsSmall e → e.decls ≡ declarations_of kept → IsStrictlySortedBy (λ (x y : Vec ℕ Global). slice_cmp nat_cmp x.items y.items) (map (λ q. q.0) kept) → map deref_pair ps ≡ kept → n.strings.items ≡ ss → n.bases.items ≡ bs → IsSoFar e n.path n.name (texts ss) bs (map entry n.entries.items) (map shown ps) → Numbers n e
-loop-end n e ss bs kept ps small decls sorted all strings bases so_far =
-    numbers-is n e kept small decls sorted
-    (subst (λ (ds : List (List ℕ × Declaration)). IsSoFar e n.path n.name (texts n.strings.items) n.bases.items (map entry n.entries.items) ds) (shown-map ps ∙ ap (map entry_of) all)
-    (subst (λ (xs : List (Bor (List ℕ))). IsSoFar e n.path n.name (texts xs) n.bases.items (map entry n.entries.items) (map shown ps)) (sym strings)
-    (subst (λ (ys : List ℕ). IsSoFar e n.path n.name (texts ss) ys (map entry n.entries.items) (map shown ps)) (sym bases) so_far)))
+pub loop_next : (e : Export) (kept : Kept) (ps : List Item) (p : Item) (text : List ℕ) (es new : List rust.Entry) (x : rust.Entry) (bs cs : List ℕ) (s t u : List (List ℕ)) → HasNames e → declarations_of kept ≡ e.decls → IsStrictlySortedBy (λ (x y : Vec ℕ Global). slice_cmp nat_cmp x.items y.items) (map (λ q. q.0) kept) → slice_get kept (length ps) ≡ Some (deref_pair p) → text ≡ p.0.now.items → new ≡ es ++ x ∷ []
+    → NumbersConstants (map shown ps) (map entry es) bs s t → Grown 3 t u → GrownFiles (declaration p.1.now).file u bs cs → IsEntryOf u cs (entry x) (text, declaration p.1.now) → NumbersConstants (map shown (ps ++ p ∷ [])) (map entry new) cs s u
+loop_next e kept ps p text es new x bs cs s t u names decls sorted found same pushed so_far g f is =
+    let named = item_at HasName e kept (length ps) p text names.entries decls sorted found same in
+    let next : NumbersConstants (map shown ps ++ shown p ∷ []) (map entry es ++ entry x ∷ []) cs s u =
+    constants_more (map shown ps) (map entry es) bs cs s t u (entry x) (shown p) named.file so_far g f (subst (λ (t : List ℕ). IsEntryOf u cs (entry x) (t, declaration p.1.now)) same is) in
+    subst (λ (xs : List Entry). NumbersConstants (map shown (ps ++ p ∷ [])) xs cs s u) (sym (ap (map entry) pushed ∙ map-append entry es (x ∷ [])))
+    (subst (λ (ds : List (List ℕ × Declaration)). NumbersConstants ds (map entry es ++ entry x ∷ []) cs s u) (sym (map-append shown ps (p ∷ []))) next)
+
+pub loop_end : (e : Export) (kept : Kept) (ps : List Item) (es : List Entry) (bs cs : List ℕ) (s t : List (List ℕ)) → declarations_of kept ≡ e.decls → IsStrictlySortedBy (λ (x y : Vec ℕ Global). slice_cmp nat_cmp x.items y.items) (map (λ q. q.0) kept) → map deref_pair ps ≡ kept → cs ≡ bs → NumbersConstants (map shown ps) es bs s t → NumbersConstants (entries e.decls) es cs s t
+loop_end e kept ps es bs cs s t decls sorted all same so_far =
+    subst (λ (ys : List ℕ). NumbersConstants (entries e.decls) es ys s t) (sym same)
+    (subst (λ (ds : List (List ℕ × Declaration)). NumbersConstants ds es bs s t) (shown-map ps ∙ ap (map entry_of) all ∙ sym (kept_is e kept decls sorted)) so_far)
+
+pub kept_map : (e : Export) (kept : Kept) → declarations_of kept ≡ e.decls → IsStrictlySortedBy (λ (x y : Vec ℕ Global). slice_cmp nat_cmp x.items y.items) (map (λ q. q.0) kept) → IsMapOf (entries e.decls) e.decls
+unfolding declarations_of
+kept_map e kept decls sorted =
+    let same : entries e.decls ≡ map entry_of kept = ap entries (sym decls) ∙ entries-declarations_of kept sorted in
+    subst (λ (ds : List (List ℕ × Declaration)). IsMapOf ds e.decls) (sym same) (record { names = names-entry_of kept sorted; whole = decls })

@@ -1,24 +1,32 @@
 -- Elements that are added to the parts of a file.
-use Rattle.std.proofs.Common.{◌≡◌, ℕ, zero, suc, ◌+◌, ◌*◌, ◌/◌, ◌%◌, ◌^◌, ◌<◌, ◌≤◌, true, false, cond, List, [], ◌∷◌, ◌++◌, map, take, length, get_or, set, refl, sym, ap, ◌∙◌, subst, arith, append_assoc, add-one, lit<, replicate, ltb, min, mul-suc, lit≤}
+use Rattle.std.proofs.Common.{◌≡◌, ℕ, zero, suc, ◌+◌, ◌*◌, ◌^◌, ◌<◌, ◌≤◌, List, [], ◌∷◌, ◌++◌, map, take, length, get_or, set, refl, sym, ap, ◌∙◌, subst, arith, append_assoc, add-one, lit<, lit≤, replicate, min}
 use Rattle.std.specs.List.{AllByRecursion, flat_map, range_with_len}
-use Rattle.std.proofs.Math.Nat.{mul-le-mul_left}
-use Rattle.std.proofs.lemmas.List.{length-append, length-map, length-set, length-take, append-nil, set-get_or}
+use Rattle.std.proofs.lemmas.List.{length-append, length-map, length-set, append-nil, set-get_or, take_more, map-append}
 use Rattle.std.proofs.lemmas.List.Concat.{flat_map-append}
-use Rattle.std.proofs.lemmas.List.FromFn.{length-range_with_len}
-use denote.Ref.{Bor}
-use Rattle.byteorder.specs.Numbers.{length-bytes_low_first}
-use Rattle.ui_frame.specs.Container.{Parts, IsContainer, before_fingerprint, contents, elements, ends_of, fingerprint, fingerprint_after, joined, no_elements, running, section, version, flags, with_element, word, words}
-use Rattle.ui_frame.specs.Number.{groups, uint}
+use Rattle.ui_frame.specs.Container.{Parts, IsContainer, contents, elements, joined, no_elements, section, with_element}
 use Rattle.ui_frame.specs.Sections.{number_of}
 use Rattle.ui_frame.specs.declared.section.Section.{Section}
 use Rattle.ui_frame.specs.declared.section.Section.TheVariants.{Str, Meta, PosBase, Pkg, Name, Types, Obj, ObjExt, ObjDict, Body}
-use Rattle.ui_consts.specs.Elements.{Elements, Entry, spelled, numbers, public_root, private_root, base_numbers, package_numbers, type_numbers, types_of, name_of, object_of, extension_numbers, dictionary_numbers}
-use Rattle.ui_consts.specs.Export.{Export}
+use Rattle.ui_strpos.specs.Format.{InGrammar, items_by}
+use Rattle.ui_strpos.specs.Reading.{Context}
+use Rattle.ui_strpos.specs.Elements.{name, pkg, posbase}
+use Rattle.ui_strpos.specs.declared.name.NameEl.{NameEl}
+use Rattle.ui_eobj.specs.declared.object.ConstEl.{ConstEl}
+use Rattle.ui_eobj.specs.Roots.{object_use, below_entry, public_root, private_root}
+use Rattle.ui_eobj.specs.Objects.{constant}
+use Rattle.ui_eobj.specs.declared.root.BelowEl.{BelowEl}
+use Rattle.ui_eobj.specs.declared.root.ObjectUse.{ObjectUse}
+use Rattle.ui_eobj.specs.declared.value.ValueEl.{ValueEl}
+use Rattle.ui_eobj.specs.declared.value.ValueEl.TheVariants as value
+use Rattle.std.specs.Prelude.{Option, Some}
+use Rattle.ui_exports.specs.Linked.{Linked}
+use Rattle.ui_consts.specs.Elements.{Elements, Entry, spelled, spelled_as, base_of, package_of, name_of, object_of, public_of, private_of, use_of, types_of, type_bytes, extension_bytes, dictionary_bytes}
 use Rattle.ui_consts.specs.Record.{Holds}
+use Rattle.ui_consts.specs.Numbering.{Numbers, elements_of, entry}
+use Rattle.ui_consts.specs.Writing.{Adds, AddsAll, HasPlace, HasRoom, front, middle, with_elements}
 use Rattle.ui_consts.specs.declared.numbered.Numbered.{Numbered}
-use Rattle.ui_consts.specs.Writing.{Adds, HasRoom, with_elements}
-use Rattle.ui_consts.specs.Numbering.{Numbers, elements_of, entry, gathered, texts}
 use Rattle.ui_consts.specs.declared.numbered.Entry as rust
+use Rattle.ui_consts.proofs.SpellingSizes.{length-container}
 
 number_of-lt : (s : Section) → number_of s < 10
 number_of-lt Str = lit< tt
@@ -74,12 +82,12 @@ set_again [] k es fs h = absurd (omega arith)
 set_again (xs ∷ xss) zero es fs h = ap (λ (ys : List (List ℕ)). ys ∷ xss) (append_assoc xs es fs)
 set_again (xs ∷ xss) (suc k) es fs h = ap (λ (p : Parts). xs ∷ p) (set_again xss k es fs (omega arith))
 
-pub Adds-none : (s : Section) (old : Parts) → length old ≡ 10 → Adds s [] 0 old old
-Adds-none s old ten =
+pub Adds-none : (s : Section) (old : Parts) (es : List (List ℕ)) (w : ℕ) → length old ≡ 10 → es ≡ [] → Adds s es w old old
+Adds-none s old es w ten none =
     record {
-      parts = sym (ap (set old (number_of s)) (append-nil (section s old)) ∙ set-get_or old (number_of s) []);
+      parts = sym (ap (λ (fs : List (List ℕ)). with_elements s fs old) none ∙ ap (set old (number_of s)) (append-nil (section s old)) ∙ set-get_or old (number_of s) []);
       ten = ten;
-      count = omega arith;
+      count = omega (arith, ap length none);
       size = omega arith;
     }
 
@@ -93,49 +101,75 @@ Adds-more s es y w v old mid new ten a b =
       size = omega (arith, a.size, b.size);
     }
 
-pub Adds-light : (s : Section) (es : List (List ℕ)) (w v : ℕ) (old new : Parts) → w ≤ v → Adds s es w old new → Adds s es v old new
-Adds-light s es w v old new h a = record { parts = a.parts; ten = a.ten; count = a.count; size = omega (arith, a.size) }
-
 pub Adds-same : (s : Section) (es fs : List (List ℕ)) (w v : ℕ) (old new : Parts) → es ≡ fs → w ≤ v → Adds s es w old new → Adds s fs v old new
-Adds-same s es fs w v old new same h a = subst (λ gs. Adds s gs v old new) same (Adds-light s es w v old new h a)
+Adds-same s es fs w v old new same h a = subst (λ gs. Adds s gs v old new) same (record { parts = a.parts; ten = a.ten; count = a.count; size = omega (arith, a.size) })
 
-pub room : (s : Section) (es : List (List ℕ)) (n w v m u : ℕ) (old mid : Parts) → HasRoom n w old → Adds s es v old mid → length es + m ≤ n → v + u ≤ w → HasRoom m u mid
-room s es n w v m u old mid r a few light = record { ten = a.ten; few = omega (arith, r.few, a.count); light = omega (arith, r.light, a.size) }
+-- a section's elements are at most so many and so large
+pub all_added : (s : Section) (es : List (List ℕ)) (w : ℕ) (old new : Parts) → length es ≤ 2 ^ 14 → w ≤ 2 ^ 26 → Adds s es w old new → AddsAll s es old new
+all_added s es w old new few light a = record {
+  parts = a.parts;
+  room = λ n r. record { ten = a.ten; few = omega (arith, r.few, a.count); light = omega (arith, r.light, a.size) };
+}
 
--- ---- one more of many
+pub all_same : (s : Section) (es fs : List (List ℕ)) (old new : Parts) → es ≡ fs → AddsAll s es old new → AddsAll s fs old new
+all_same s es fs old new same a = subst (λ gs. AddsAll s gs old new) same a
 
-pub map-take-more : {X : Type 0} (f : X → List ℕ) (xs : List X) (i : ℕ) (d : X) → i < length xs → map f (take (i + 1) xs) ≡ map f (take i xs) ++ f (get_or xs i d) ∷ []
-map-take-more f xs i d h = ap (λ n. map f (take n xs)) (add-one i) ∙ step f xs i d h
+-- ---- many elements, of at most 4,096 bytes each
+
+-- the first elements of many
+abbrev pub Begun : {X : Type 0} → Section → (X → List ℕ) → List X → ℕ → Parts → Parts → Type 0
+Begun s f xs i old new = Adds s (map f (take i xs)) (4096 * i) old new
+
+pub turn : {X : Type 0} (s : Section) (f : X → List ℕ) (xs : List X) (i : ℕ) (x d : X) (v : ℕ) (old mid new : Parts) → length old ≡ 10 → i < length xs → x ≡ get_or xs i d → v ≤ 4096 → Begun s f xs i old mid → Adds s (f x ∷ []) v mid new → Begun s f xs (i + 1) old new
+turn s f xs i x d v old mid new ten h is light a b =
+    let more : take (i + 1) xs ≡ take i xs ++ x ∷ [] = take_more xs i d h ∙ ap (λ y. take i xs ++ y ∷ []) (sym is) in
+    let same : map f (take i xs) ++ f x ∷ [] ≡ map f (take (i + 1) xs) = sym (ap (map f) more ∙ map-append f (take i xs) (x ∷ [])) in
+    Adds-same s (map f (take i xs) ++ f x ∷ []) (map f (take (i + 1) xs)) (4096 * i + v) (4096 * (i + 1)) old new same (omega arith) (Adds-more s (map f (take i xs)) (f x) (4096 * i) v old mid new ten a b)
+
+length-take-some : {X : Type 0} (f : X → List ℕ) (xs : List X) (i : ℕ) → i ≤ length xs → length (map f (take i xs)) ≡ i
+length-take-some f xs zero h = refl
+length-take-some f [] (suc i) h = absurd (omega arith)
+length-take-some f (x ∷ xs) (suc i) h = ap suc (length-take-some f xs i (omega arith))
+
+pub place_next : {X : Type 0} (s : Section) (f : X → List ℕ) (xs : List X) (i v : ℕ) (old mid : Parts) → i < length xs → length xs ≤ 2 ^ 14 → v ≤ 4096 → HasRoom 1 old → Begun s f xs i old mid → HasPlace 1 v mid
+place_next s f xs i v old mid h few light r a =
+    let count = length-take-some f xs i (omega arith) in
+    record { ten = a.ten; few = omega (arith, r.few, a.count, count); light = omega (arith, r.light, a.size) }
+
+pub many_added : {X : Type 0} (s : Section) (f : X → List ℕ) (xs : List X) (i : ℕ) (old new : Parts) → i ≡ length xs → length xs ≤ 2 ^ 14 → Begun s f xs i old new → AddsAll s (map f xs) old new
+many_added s f xs i old new all few a =
+    let count : length (map f xs) ≡ length xs = length-map xs f in
+    let whole : map f (take i xs) ≡ map f xs = ap (map f) (take_whole xs i (omega arith)) in
+    all_added s (map f xs) (4096 * i) old new (omega arith) (omega arith) (Adds-same s (map f (take i xs)) (map f xs) (4096 * i) (4096 * i) old new whole (omega arith) a)
   where
-    step : {X : Type 0} (f : X → List ℕ) (xs : List X) (i : ℕ) (d : X) → i < length xs → map f (take (suc i) xs) ≡ map f (take i xs) ++ f (get_or xs i d) ∷ []
-    step f [] i d h = absurd (omega arith)
-    step f (x ∷ xs) zero d h = refl
-    step f (x ∷ xs) (suc i) d h = ap (λ (ys : List (List ℕ)). f x ∷ ys) (step f xs i d (omega arith))
+    take_whole : {Y : Type 0} (ys : List Y) (k : ℕ) → length ys ≤ k → take k ys ≡ ys
+    take_whole [] zero h = refl
+    take_whole [] (suc k) h = refl
+    take_whole (y ∷ ys) zero h = absurd (omega arith)
+    take_whole (y ∷ ys) (suc k) h = ap (λ zs. y ∷ zs) (take_whole ys k (omega arith))
 
-pub length-map-take : {X : Type 0} (f : X → List ℕ) (xs : List X) (i : ℕ) → i ≤ length xs → length (map f (take i xs)) ≡ i
-length-map-take f xs zero h = refl
-length-map-take f [] (suc i) h = absurd (omega arith)
-length-map-take f (x ∷ xs) (suc i) h = ap suc (length-map-take f xs i (omega arith))
+pub short_at : (ss : List (List ℕ)) (i : ℕ) (d : List ℕ) → AllByRecursion (λ text. length text ≤ 4096) ss → i < length ss → length (get_or ss i d) ≤ 4096
+short_at [] i d all h = absurd (omega arith)
+short_at (s ∷ ss) zero d all h = all.0
+short_at (s ∷ ss) (suc i) d all h = short_at ss i d all.1 (omega arith)
 
--- a turn that adds the next of many elements
-pub Adds-turn : {X : Type 0} (s : Section) (f : X → List ℕ) (xs : List X) (i : ℕ) (x d : X) (each v : ℕ) (old mid new : Parts) → length old ≡ 10 → i < length xs → x ≡ get_or xs i d → Adds s (map f (take i xs)) (each * i) old mid → Adds s (f x ∷ []) v mid new → v ≤ each → Adds s (map f (take (i + 1) xs)) (each * (i + 1)) old new
-Adds-turn s f xs i x d each v old mid new ten h is a b light =
-    let more : map f (take i xs) ++ f x ∷ [] ≡ map f (take (i + 1) xs) = sym (map-take-more f xs i d h ∙ ap (λ y. map f (take i xs) ++ f y ∷ []) (sym is)) in
-    let heavier : each * i + v ≤ each * (i + 1) = omega (arith, mul_next each i) in
-    Adds-same s (map f (take i xs) ++ f x ∷ []) (map f (take (i + 1) xs)) (each * i + v) (each * (i + 1)) old new more heavier (Adds-more s (map f (take i xs)) (f x) (each * i) v old mid new ten a b)
-  where
-    mul_next : (m n : ℕ) → m * (n + 1) ≡ m * n + m
-    mul_next m n = ap (λ k. m * k) (add-one n) ∙ omega (arith, mul-suc m n)
+pub all_at : {X : Type 0} (P : X → Type 0) (xs : List X) (i : ℕ) (d : X) → AllByRecursion P xs → i < length xs → P (get_or xs i d)
+all_at P [] i d all h = absurd (omega arith)
+all_at P (x ∷ xs) zero d all h = all.0
+all_at P (x ∷ xs) (suc i) d all h = all_at P xs i d all.1 (omega arith)
 
-times_next : (m n : ℕ) → m * suc n ≡ m * n + m
-times_next m n = omega (arith, mul-suc m n)
+pub all_map_at : {X Y : Type 0} (P : Y → Type 0) (f : X → Y) (xs : List X) (i : ℕ) (d : X) → AllByRecursion P (map f xs) → i < length xs → P (f (get_or xs i d))
+all_map_at P f [] i d all h = absurd (omega arith)
+all_map_at P f (x ∷ xs) zero d all h = all.0
+all_map_at P f (x ∷ xs) (suc i) d all h = all_map_at P f xs i d all.1 (omega arith)
 
--- there is room for the next of many elements
-pub room-turn : {X : Type 0} (s : Section) (f : X → List ℕ) (xs : List X) (i each u : ℕ) (old mid : Parts) → i < length xs → HasRoom (length xs) (each * length xs) old → Adds s (map f (take i xs)) (each * i) old mid → u ≤ each → HasRoom 1 u mid
-room-turn s f xs i each u old mid h r a light =
-    let next : each * suc i ≤ each * length xs = mul-le-mul_left each (omega arith) in
-    let step : each * suc i ≡ each * i + each = times_next each i in
-    room s (map f (take i xs)) (length xs) (each * length xs) (each * i) 1 u old mid r a (omega (arith, length-map-take f xs i (omega arith))) (omega arith)
+pub map_map : {X Y : Type 0} (f : X → Y) (g : Y → List ℕ) (xs : List X) → map (λ x. g (f x)) xs ≡ map g (map f xs)
+map_map f g [] = refl
+map_map f g (x ∷ xs) = ap (λ (ys : List (List ℕ)). g (f x) ∷ ys) (map_map f g xs)
+
+pub map_same : (xs : List (List ℕ)) → map (λ (x : List ℕ). x) xs ≡ xs
+map_same [] = refl
+map_same (x ∷ xs) = ap (λ (ys : List (List ℕ)). x ∷ ys) (map_same xs)
 
 -- ---- the same element again
 
@@ -150,66 +184,35 @@ pub length-replicate : (n : ℕ) (y : List ℕ) → length (replicate n y) ≡ n
 length-replicate zero y = refl
 length-replicate (suc n) y = ap suc (length-replicate n y)
 
--- ---- how long a spelling is
+pub same_turn : (s : Section) (y : List ℕ) (i : ℕ) (old mid new : Parts) → length old ≡ 10 → length y ≤ 4096 → Adds s (replicate i y) (4096 * i) old mid → Adds s (y ∷ []) (length y) mid new → Adds s (replicate (i + 1) y) (4096 * (i + 1)) old new
+same_turn s y i old mid new ten light a b = Adds-same s (replicate i y ++ y ∷ []) (replicate (i + 1) y) (4096 * i + length y) (4096 * (i + 1)) old new (replicate-more i y) (omega arith) (Adds-more s (replicate i y) y (4096 * i) (length y) old mid new ten a b)
 
-length-groups : (f n : ℕ) → length (groups f n) ≤ f
-unfolding groups
-length-groups zero n = omega arith
-length-groups (suc f) n = elim (ltb n 128) as (λ b. length (cond b (n ∷ []) ((128 + n % 128) ∷ groups f (n / 128))) ≤ suc f) [ true ↦ omega arith | false ↦ omega (arith, length-groups f (n / 128)) ]
+pub same_next : (s : Section) (y : List ℕ) (i count : ℕ) (old mid : Parts) → i < count → count ≤ 4096 → length y ≤ 4096 → HasRoom 1 old → Adds s (replicate i y) (4096 * i) old mid → HasPlace 1 (length y) mid
+same_next s y i count old mid h few light r a =
+    let n = length-replicate i y in
+    record { ten = a.ten; few = omega (arith, r.few, a.count, n); light = omega (arith, r.light, a.size) }
 
-length-uint : (n : ℕ) → length (uint n) ≤ 10
-unfolding uint
-length-uint n = length-groups 10 n
+pub same_added : (s : Section) (y : List ℕ) (i count : ℕ) (old new : Parts) → i ≡ count → count ≤ 4096 → Adds s (replicate i y) (4096 * i) old new → AddsAll s (replicate count y) old new
+same_added s y i count old new all few a =
+    let n = length-replicate i y in
+    all_same s (replicate i y) (replicate count y) old new (ap (λ k. replicate k y) all) (all_added s (replicate i y) (4096 * i) old new (omega arith) (omega arith) a)
 
-pub length-numbers : (ns : List ℕ) → length (numbers ns) ≤ 10 * length ns
-length-numbers [] = omega arith
-length-numbers (n ∷ ns) = omega (arith, length-append (uint n) (numbers ns), length-uint n, length-numbers ns)
+-- ---- how many fields
 
--- ---- the whole file
-
-pub assembled : (x : Elements) (p1 p2 p3 p4 p5 p6 p7 p8 p9 p10 : Parts) → p1 ≡ with_elements Str x.strings no_elements → p2 ≡ with_elements PosBase (map (λ file. numbers (base_numbers file)) x.bases) p1 → p3 ≡ with_elements Pkg (numbers (package_numbers x.path x.name) ∷ []) p2 → p4 ≡ with_elements Name (map name_of x.entries) p3 → p5 ≡ with_elements Types (types_of x.entries) p4 → p6 ≡ with_elements Obj (map object_of x.entries) p5 → p7 ≡ with_elements ObjExt (map (λ e. numbers extension_numbers) x.entries) p6 → p8 ≡ with_elements ObjDict (map (λ e. numbers dictionary_numbers) x.entries) p7 → p9 ≡ with_elements Meta (numbers (public_root x.order) ∷ []) p8 → p10 ≡ with_elements Meta (numbers private_root ∷ []) p9 → p10 ≡ spelled x
-unfolding spelled
-assembled x p1 p2 p3 p4 p5 p6 p7 p8 p9 p10 e1 e2 e3 e4 e5 e6 e7 e8 e9 e10 =
-    e10 ∙ ap (with_elements Meta (numbers private_root ∷ [])) (e9 ∙ ap (with_elements Meta (numbers (public_root x.order) ∷ [])) (e8 ∙ ap (with_elements ObjDict (map (λ e. numbers dictionary_numbers) x.entries)) (e7 ∙ ap (with_elements ObjExt (map (λ e. numbers extension_numbers) x.entries)) (e6 ∙ ap (with_elements Obj (map object_of x.entries)) (e5 ∙ ap (with_elements Types (types_of x.entries)) (e4 ∙ ap (with_elements Name (map name_of x.entries)) (e3 ∙ ap (with_elements Pkg (numbers (package_numbers x.path x.name) ∷ [])) (e2 ∙ ap (with_elements PosBase (map (λ file. numbers (base_numbers file)) x.bases)) e1))))))))
-
--- ---- how long a container is
-
-length-words : (ns : List ℕ) → length (words ns) ≡ 4 * length ns
-unfolding word
-length-words [] = refl
-length-words (n ∷ ns) = omega (arith, length-append (word n) (words ns), length-bytes_low_first 0 4 n, length-words ns)
-
-length-running : (before : ℕ) (ns : List ℕ) → length (running before ns) ≡ length ns
-length-running before [] = refl
-length-running before (n ∷ ns) = ap suc (length-running (before + n) ns)
-
-length-ends : {X : Type 0} (xss : List (List X)) → length (ends_of xss) ≡ length xss
-length-ends xss = length-running 0 (map length xss) ∙ length-map-length xss
+pub items-constant : (e : Entry) → length (constant.items (object_of e)) ≤ 10
+items-constant e = by e.value
   where
-    length-map-length : {X : Type 0} (xss : List (List X)) → length (map length xss) ≡ length xss
-    length-map-length [] = refl
-    length-map-length (xs ∷ xss) = ap suc (length-map-length xss)
+    by : (v : ValueEl) → length (constant.items (record { pos = record { base = e.base; line = e.line; column = e.column }; ty = 0; value = v })) ≤ 10
+    by (value.Int64 z) = lit≤ tt
+    by (value.Big k b) = lit≤ tt
 
-at_most_eight : (xs : List ℕ) → length (take 8 xs) ≤ 8
-at_most_eight xs = omega (arith, length-take 8 xs)
+pub items-public : (ks : List ℕ) → length (flat_map object_use.items (map use_of ks)) ≡ 3 * length ks
+items-public [] = refl
+items-public (k ∷ ks) = omega (arith, length-append (object_use.items (use_of k)) (flat_map object_use.items (map use_of ks)), items-public ks)
 
-length-fingerprint : (bytes : List ℕ) → length (fingerprint_after bytes) ≤ 8
-unfolding fingerprint_after
-length-fingerprint bytes = at_most_eight _
-
-pub length-container : (bytes : List ℕ) (parts : Parts) → IsContainer bytes parts → length bytes ≤ 56 + 4 * length (elements parts) + length (contents parts)
-unfolding before_fingerprint
-length-container bytes parts is =
-    let tables : List ℕ = version ∷ flags ∷ ends_of parts ++ ends_of (elements parts) in
-    let whole : length bytes ≡ length (before_fingerprint parts ++ fingerprint parts) = ap length is.spelled in
-    omega (arith, whole, length-append (before_fingerprint parts) (fingerprint parts), length-append (words tables) (contents parts), length-words tables, length-append (ends_of parts) (ends_of (elements parts)), length-ends parts, length-ends (elements parts), length-fingerprint (before_fingerprint parts), is.fits.ten)
-
--- ---- each of many is small
-
-pub short_at : (ss : List (Bor (List ℕ))) (i : ℕ) (d : Bor (List ℕ)) → AllByRecursion (λ text. length text ≤ 4096) (map (λ s. s.now) ss) → i < length ss → length (get_or ss i d).now ≤ 4096
-short_at [] i d all h = absurd (omega arith)
-short_at (s ∷ ss) zero d all h = all.0
-short_at (s ∷ ss) (suc i) d all h = short_at ss i d all.1 (omega arith)
+pub items-private : (before : Option BelowEl) (bs : List BelowEl) → length (items_by below_entry before bs) ≡ 3 * length bs
+items-private before [] = refl
+items-private before (b ∷ bs) = omega (arith, length-append ((below_entry before).items b) (items_by below_entry (Some b) bs), items-private (Some b) bs)
 
 -- ---- the public root
 
@@ -217,123 +220,74 @@ range-more : (n a : ℕ) → range_with_len a (suc n) ≡ range_with_len a n ++ 
 range-more zero a = let e : a ≡ a + 0 = omega arith in ap (λ k. k ∷ []) e
 range-more (suc n) a = let e : (a + 1) + n ≡ a + suc n = omega arith in ap (λ (ks : List ℕ). a ∷ ks) (range-more n (a + 1) ∙ ap (λ k. range_with_len (a + 1) n ++ k ∷ []) e)
 
--- the numbers of one more of a range are pushed
-pub range-turn : (f : ℕ → List ℕ) (a n k : ℕ) (out cur new : List ℕ) → k ≡ a + n → cur ≡ out ++ flat_map f (range_with_len a n) → new ≡ cur ++ f k → new ≡ out ++ flat_map f (range_with_len a (n + 1))
-range-turn f a n k out cur new place so_far pushed =
-    let one : flat_map f ((a + n) ∷ []) ≡ f k = append-nil (f (a + n)) ∙ ap f (sym place) in
-    let range : flat_map f (range_with_len a (n + 1)) ≡ flat_map f (range_with_len a n) ++ f k =
-    ap (λ m. flat_map f (range_with_len a m)) (add-one n) ∙ ap (flat_map f) (range-more n a) ∙ flat_map-append f (range_with_len a n) ((a + n) ∷ []) ∙ ap (λ (ys : List ℕ). flat_map f (range_with_len a n) ++ ys) one in
-    pushed ∙ ap (λ (ys : List ℕ). ys ++ f k) so_far ∙ append_assoc out (flat_map f (range_with_len a n)) (f k) ∙ ap (λ (ys : List ℕ). out ++ ys) (sym range)
+pub uses-turn : (k : ℕ) (old new : List ObjectUse) → old ≡ map use_of (range_with_len 0 k) → new ≡ old ++ use_of k ∷ [] → new ≡ map use_of (range_with_len 0 (k + 1))
+uses-turn k old new so_far pushed =
+    let range : range_with_len 0 (k + 1) ≡ range_with_len 0 k ++ k ∷ [] = ap (range_with_len 0) (add-one k) ∙ range-more k 0 ∙ ap (λ n. range_with_len 0 k ++ n ∷ []) (omega arith) in
+    pushed ∙ ap (λ us. us ++ use_of k ∷ []) so_far ∙ sym (map-append use_of (range_with_len 0 k) (k ∷ [])) ∙ ap (map use_of) (sym range)
 
-abbrev table_of : ℕ → List ℕ
-table_of count = flat_map (λ object. 6 ∷ object ∷ []) (range_with_len 0 count)
+-- ---- the whole file
 
-abbrev data_of : ℕ → List ℕ
-data_of count = flat_map (λ place. 0 ∷ place ∷ 0 ∷ []) (range_with_len 1 count)
+pub less : (n m : ℕ) (parts : Parts) → m ≤ n → HasRoom n parts → HasRoom m parts
+less n m parts h r = record { ten = r.ten; few = omega (arith, r.few); light = omega (arith, r.light) }
 
-pub root-is : (count : ℕ) (v0 v1 v2 v3 : List ℕ) → v0 ≡ (1 + count) ∷ 3 ∷ 0 ∷ [] → v1 ≡ v0 ++ flat_map (λ object. 6 ∷ object ∷ []) (range_with_len 0 count) → v2 ≡ v1 ++ (0 ∷ 0 ∷ count ∷ []) → v3 ≡ v2 ++ flat_map (λ place. 0 ∷ place ∷ 0 ∷ []) (range_with_len 1 count) → v3 ≡ public_root (range_with_len 0 count)
-root-is count v0 v1 v2 v3 e0 e1 e2 e3 =
-    e3 ∙ ap (λ (v : List ℕ). v ++ data_of count) (e2 ∙ ap (λ (v : List ℕ). v ++ (0 ∷ 0 ∷ count ∷ [])) (e1 ∙ ap (λ (v : List ℕ). v ++ table_of count) e0))
-    ∙ ap (λ (ys : List ℕ). (1 + count) ∷ 3 ∷ 0 ∷ ys) (append_assoc (table_of count) (0 ∷ 0 ∷ count ∷ []) (data_of count))
-    ∙ sym (ap (λ (k : ℕ). (1 + k) ∷ 3 ∷ 0 ∷ (table_of count ++ 0 ∷ 0 ∷ k ∷ data_of k)) (length-range_with_len 0 count))
+pub room_at_first : (parts : Parts) → parts ≡ no_elements → HasRoom 10 parts
+room_at_first parts e = subst (HasRoom 10) (sym e) (record { ten = refl; few = lit≤ tt; light = lit≤ tt })
 
-length-each : (f : ℕ → List ℕ) (m : ℕ) (ks : List ℕ) → ((k : ℕ) → length (f k) ≡ m) → length (flat_map f ks) ≡ m * length ks
-length-each f m [] each = omega (arith, mul_none m)
-  where
-    mul_none : (n : ℕ) → n * 0 ≡ 0
-    mul_none n = omega arith
-length-each f m (k ∷ ks) each = omega (arith, length-append (f k) (flat_map f ks), each k, length-each f m ks each, mul-suc m (length ks))
-
-pub length-public_root : (count : ℕ) → length (public_root (range_with_len 0 count)) ≡ 6 + 5 * count
-length-public_root count =
-    let n = length-range_with_len 0 count in
-    let two : length (table_of count) ≡ 2 * length (range_with_len 0 count) = length-each (λ object. 6 ∷ object ∷ []) 2 (range_with_len 0 count) (λ k. refl) in
-    let three : length (data_of (length (range_with_len 0 count))) ≡ 3 * length (range_with_len 1 (length (range_with_len 0 count))) = length-each (λ place. 0 ∷ place ∷ 0 ∷ []) 3 (range_with_len 1 (length (range_with_len 0 count))) (λ k. refl) in
-    omega (arith, length-append (table_of count) (0 ∷ 0 ∷ length (range_with_len 0 count) ∷ data_of (length (range_with_len 0 count))), two, three, n, length-range_with_len 1 (length (range_with_len 0 count)))
-
--- ---- there is room for all of them
-
-pub enough : (n w m u : ℕ) (parts : Parts) → HasRoom n w parts → m ≤ n → u ≤ w → HasRoom m u parts
-enough n w m u parts r few light = record { ten = r.ten; few = omega (arith, r.few); light = omega (arith, r.light) }
-
--- what is left after at most so many elements of one kind
-spend : (s : Section) (es : List (List ℕ)) (k each top n w m u : ℕ) (old new : Parts) → HasRoom n w old → Adds s es (each * k) old new → length es ≡ k → k ≤ top → top + m ≤ n → each * top + u ≤ w → HasRoom m u new
-spend s es k each top n w m u old new r a count few more light =
-    let weight : each * k ≤ each * top = mul-le-mul_left each few in
-    room s es n w (each * k) m u old new r a (omega arith) (omega arith)
-
-pub room0 : (parts : Parts) → parts ≡ no_elements → HasRoom 65536 268435456 parts
-room0 parts e = subst (HasRoom 65536 268435456) (sym e) (record { ten = refl; few = lit≤ tt; light = lit≤ tt })
-
-pub room1 : (ss : List (Bor (List ℕ))) (old new : Parts) → length ss ≤ 8194 → HasRoom 65536 268435456 old → Adds Str (map (λ s. s.now) ss) (4096 * length ss) old new → HasRoom 57000 234000000 new
-room1 ss old new few r a = spend Str (map (λ s. s.now) ss) (length ss) 4096 8194 65536 268435456 57000 234000000 old new r a (length-map ss (λ s. s.now)) few (lit≤ tt) (lit≤ tt)
-
-pub room2 : (bases : List ℕ) (old new : Parts) → length bases ≤ 4096 → HasRoom 57000 234000000 old → Adds PosBase (map (λ file. numbers (base_numbers file)) bases) (200 * length bases) old new → HasRoom 52000 233000000 new
-room2 bases old new few r a = spend PosBase (map (λ file. numbers (base_numbers file)) bases) (length bases) 200 4096 57000 234000000 52000 233000000 old new r a (length-map bases (λ file. numbers (base_numbers file))) few (lit≤ tt) (lit≤ tt)
-
-pub room3 : (b : List ℕ) (old new : Parts) → HasRoom 52000 233000000 old → Adds Pkg (b ∷ []) 200 old new → HasRoom 51000 232900000 new
-room3 b old new r a = room Pkg (b ∷ []) 52000 233000000 200 51000 232900000 old new r a (lit≤ tt) (lit≤ tt)
-
-module _ (es : List rust.Entry) (few : length es ≤ 4096) where
-  pub room4 : (old new : Parts) → HasRoom 51000 232900000 old → Adds Name (map (λ e. name_of (entry e)) es) (200 * length es) old new → HasRoom 46000 232000000 new
-  room4 old new r a = spend Name (map (λ e. name_of (entry e)) es) (length es) 200 4096 51000 232900000 46000 232000000 old new r a (length-map es (λ e. name_of (entry e))) few (lit≤ tt) (lit≤ tt)
-
-  pub room5 : (k : ℕ) (y : List ℕ) (old new : Parts) → k ≤ 1 → HasRoom 46000 232000000 old → Adds Types (replicate k y) (200 * k) old new → HasRoom 45000 231900000 new
-  room5 k y old new one r a = spend Types (replicate k y) k 200 1 46000 232000000 45000 231900000 old new r a (length-replicate k y) one (lit≤ tt) (lit≤ tt)
-
-  pub room6 : (old new : Parts) → HasRoom 45000 231900000 old → Adds Obj (map (λ e. object_of (entry e)) es) (200 * length es) old new → HasRoom 40000 231000000 new
-  room6 old new r a = spend Obj (map (λ e. object_of (entry e)) es) (length es) 200 4096 45000 231900000 40000 231000000 old new r a (length-map es (λ e. object_of (entry e))) few (lit≤ tt) (lit≤ tt)
-
-pub room7 : (k : ℕ) (y : List ℕ) (old new : Parts) → k ≤ 4096 → HasRoom 40000 231000000 old → Adds ObjExt (replicate k y) (200 * k) old new → HasRoom 35000 230000000 new
-room7 k y old new few r a = spend ObjExt (replicate k y) k 200 4096 40000 231000000 35000 230000000 old new r a (length-replicate k y) few (lit≤ tt) (lit≤ tt)
-
-pub room8 : (k : ℕ) (y : List ℕ) (old new : Parts) → k ≤ 4096 → HasRoom 35000 230000000 old → Adds ObjDict (replicate k y) (200 * k) old new → HasRoom 30000 229000000 new
-room8 k y old new few r a = spend ObjDict (replicate k y) k 200 4096 35000 230000000 30000 229000000 old new r a (length-replicate k y) few (lit≤ tt) (lit≤ tt)
-
-pub room9 : (b : List ℕ) (old new : Parts) → HasRoom 30000 229000000 old → Adds Meta (b ∷ []) (2 ^ 20) old new → HasRoom 29000 227000000 new
-room9 b old new r a = room Meta (b ∷ []) 30000 229000000 (2 ^ 20) 29000 227000000 old new r a (lit≤ tt) (lit≤ tt)
-
-pub room10 : (b : List ℕ) (w : ℕ) (old new : Parts) → w ≤ 20 → HasRoom 29000 227000000 old → Adds Meta (b ∷ []) w old new → HasRoom 0 0 new
-room10 b w old new light r a = room Meta (b ∷ []) 29000 227000000 w 0 0 old new r a (lit≤ tt) (omega arith)
-
--- ---- the elements of a numbered package
-
-map-entry : (f : Entry → List ℕ) (es : List rust.Entry) → map (λ e. f (entry e)) es ≡ map f (map entry es)
-map-entry f [] = refl
-map-entry f (e ∷ es) = ap (λ (ys : List (List ℕ)). f (entry e) ∷ ys) (map-entry f es)
-
-same-map : (y : List ℕ) (es : List rust.Entry) → replicate (length es) y ≡ map (λ (e : Entry). y) (map entry es)
+same-map : (y : List ℕ) (es : List Entry) → replicate (length es) y ≡ map (λ (e : Entry). y) es
 same-map y [] = refl
 same-map y (e ∷ es) = ap (λ (ys : List (List ℕ)). y ∷ ys) (same-map y es)
 
-types-same : (es : List rust.Entry) → replicate (min (length es) 1) (numbers type_numbers) ≡ types_of (map entry es)
-types-same [] = refl
-types-same (e ∷ es) = let one : min (suc (length es)) 1 ≡ 1 = omega arith in ap (λ n. replicate n (numbers type_numbers)) one
+pub same_for_all : (y : List ℕ) (es : List rust.Entry) (n : ℕ) → n ≡ length es → replicate n y ≡ map (λ (e : Entry). y) (map entry es)
+same_for_all y es n e = ap (λ k. replicate k y) (e ∙ sym (length-map es entry)) ∙ same-map y (map entry es)
 
-with-same : (s : Section) (es fs : List (List ℕ)) (old new : Parts) → new ≡ with_elements s es old → es ≡ fs → new ≡ with_elements s fs old
-with-same s es fs old new e same = e ∙ ap (λ gs. with_elements s gs old) same
+pub types-same : (es : List rust.Entry) (n : ℕ) → n ≡ min (length es) 1 → replicate n type_bytes ≡ types_of (map entry es)
+types-same [] n e = ap (λ k. replicate k type_bytes) e
+types-same (x ∷ es) n e = (let one : n ≡ 1 = omega (arith, e) in ap (λ k. replicate k type_bytes) one)
 
-pub gathered-is : (strings : List (Bor (List ℕ))) (path name : ℕ) (bases : List ℕ) (es : List rust.Entry) (n k : ℕ) (p0 p1 p2 p3 p4 p5 p6 p7 p8 p9 p10 : Parts) (w9 w10 : ℕ) → n ≡ length es → k ≡ min n 1 → p0 ≡ no_elements → Adds Str (texts strings) (4096 * length strings) p0 p1 → Adds PosBase (map (λ file. numbers (base_numbers file)) bases) (200 * length bases) p1 p2 → Adds Pkg (numbers (package_numbers path name) ∷ []) 200 p2 p3 → Adds Name (map (λ e. name_of (entry e)) es) (200 * length es) p3 p4 → Adds Types (replicate k (numbers type_numbers)) (200 * k) p4 p5 → Adds Obj (map (λ e. object_of (entry e)) es) (200 * length es) p5 p6 → Adds ObjExt (replicate n (numbers extension_numbers)) (200 * n) p6 p7 → Adds ObjDict (replicate n (numbers dictionary_numbers)) (200 * n) p7 p8 → Adds Meta (numbers (public_root (range_with_len 0 n)) ∷ []) w9 p8 p9 → Adds Meta (numbers private_root ∷ []) w10 p9 p10 → p10 ≡ spelled (gathered strings path name bases es)
-gathered-is strings path name bases es n k p0 p1 p2 p3 p4 p5 p6 p7 p8 p9 p10 w9 w10 count one none a1 a2 a3 a4 a5 a6 a7 a8 a9 a10 =
-    assembled (gathered strings path name bases es) p1 p2 p3 p4 p5 p6 p7 p8 p9 p10
-    (a1.parts ∙ ap (with_elements Str (texts strings)) none)
-    a2.parts
-    a3.parts
-    (with-same Name (map (λ e. name_of (entry e)) es) (map name_of (map entry es)) p3 p4 a4.parts (map-entry name_of es))
-    (with-same Types (replicate k (numbers type_numbers)) (types_of (map entry es)) p4 p5 a5.parts (ap (λ m. replicate m (numbers type_numbers)) (one ∙ ap (λ m. min m 1) count) ∙ types-same es))
-    (with-same Obj (map (λ e. object_of (entry e)) es) (map object_of (map entry es)) p5 p6 a6.parts (map-entry object_of es))
-    (with-same ObjExt (replicate n (numbers extension_numbers)) (map (λ e. numbers extension_numbers) (map entry es)) p6 p7 a7.parts (ap (λ m. replicate m (numbers extension_numbers)) count ∙ same-map (numbers extension_numbers) es))
-    (with-same ObjDict (replicate n (numbers dictionary_numbers)) (map (λ e. numbers dictionary_numbers) (map entry es)) p7 p8 a8.parts (ap (λ m. replicate m (numbers dictionary_numbers)) count ∙ same-map (numbers dictionary_numbers) es))
-    (with-same Meta (numbers (public_root (range_with_len 0 n)) ∷ []) (numbers (public_root (range_with_len 0 (length es))) ∷ []) p8 p9 a9.parts (ap (λ m. numbers (public_root (range_with_len 0 m)) ∷ []) count))
-    a10.parts
+pub whole : (x : Elements) (p q r : Parts) → p ≡ middle x → q ≡ with_elements Meta (spelled_as public_root (public_of x) ∷ []) p → r ≡ with_elements Meta (spelled_as private_root (private_of x) ∷ []) q → r ≡ spelled x
+unfolding spelled
+whole x p q r a b c = c ∙ ap (with_elements Meta (spelled_as private_root (private_of x) ∷ [])) (b ∙ ap (with_elements Meta (spelled_as public_root (public_of x) ∷ [])) a)
 
-pub same-gathered : (ss ts : List (Bor (List ℕ))) (path name : ℕ) (bs cs : List ℕ) (es fs : List rust.Entry) → ss ≡ ts → bs ≡ cs → es ≡ fs → gathered ss path name bs es ≡ gathered ts path name cs fs
-same-gathered ss ts path name bs cs es fs a b c = λ i. gathered (a i) path name (b i) (c i)
+pub holds_is : (bytes : List ℕ) (parts : Parts) (n : Numbered) (l : Linked) → IsContainer bytes parts → parts ≡ spelled (elements_of n) → Numbers n l → Holds bytes l
+holds_is bytes parts n l container is numbered = (parts, container, (elements_of n, numbered.fits, is, numbered.means))
 
--- the file of a numbered package holds what it stands for
-pub holds-is : (bytes : List ℕ) (parts : Parts) (n : Numbered) (x : Elements) (e : Export) → IsContainer bytes parts → parts ≡ spelled x → x ≡ elements_of n → Numbers n e → Holds bytes e
-holds-is bytes parts n x e container is same numbered = (parts, container, (elements_of n, numbered.fits, is ∙ ap spelled same, numbered.means))
+pub short_file : (bytes : List ℕ) (parts : Parts) → IsContainer bytes parts → HasRoom 0 parts → length bytes ≤ 2 ^ 30
+short_file bytes parts container light = omega (arith, length-container bytes parts container, light.few, light.light)
 
--- and is short
-pub short-file : (bytes : List ℕ) (parts : Parts) → IsContainer bytes parts → HasRoom 0 0 parts → length bytes ≤ 2 ^ 30
-short-file bytes parts container light = omega (arith, length-container bytes parts container, light.few, light.light)
+-- ---- the constants' elements
+
+pub name_fits : (c : Context) (es : List rust.Entry) (i : ℕ) (d : rust.Entry) (n : NameEl) → AllByRecursion (λ e. InGrammar name c (name_of e)) (map entry es) → i < length es → n ≡ name_of (entry (get_or es i d)) → InGrammar name c n
+name_fits c es i d n all h e = subst (λ (m : NameEl). InGrammar name c m) (sym e) (all_map_at (λ e. InGrammar name c (name_of e)) entry es i d all h)
+
+pub object_fits : (c : Context) (es : List rust.Entry) (i : ℕ) (d : rust.Entry) (o : ConstEl) → AllByRecursion (λ e. InGrammar constant c (object_of e)) (map entry es) → i < length es → o ≡ object_of (entry (get_or es i d)) → InGrammar constant c o
+object_fits c es i d o all h e = subst (λ (m : ConstEl). InGrammar constant c m) (sym e) (all_map_at (λ e. InGrammar constant c (object_of e)) entry es i d all h)
+
+abbrev pub object_bytes : rust.Entry → List ℕ
+object_bytes e = spelled_as constant (object_of (entry e))
+
+pub object_turn : (es : List rust.Entry) (i : ℕ) (d : rust.Entry) (o : ConstEl) (old mid new : Parts) → length old ≡ 10 → i < length es → o ≡ object_of (entry (get_or es i d)) → Begun Obj object_bytes es i old mid → Adds Obj (spelled_as constant o ∷ []) (10 + 30 * length (constant.items o)) mid new → Begun Obj object_bytes es (i + 1) old new
+object_turn es i d o old mid new ten h is a b =
+    let x : rust.Entry = get_or es i d in
+    turn Obj object_bytes es i x d (10 + 30 * length (constant.items (object_of (entry x)))) old mid new ten h refl (omega (arith, items-constant (entry x))) a
+    (subst (λ (m : ConstEl). Adds Obj (spelled_as constant m ∷ []) (10 + 30 * length (constant.items m)) mid new) is b)
+
+pub object_place : (es : List rust.Entry) (i : ℕ) (d : rust.Entry) (o : ConstEl) (old mid : Parts) → i < length es → length es ≤ 4096 → o ≡ object_of (entry (get_or es i d)) → HasRoom 1 old → Begun Obj object_bytes es i old mid → HasPlace 1 (10 + 30 * length (constant.items o)) mid
+object_place es i d o old mid h few is r a =
+    let x : rust.Entry = get_or es i d in
+    place_next Obj object_bytes es i (10 + 30 * length (constant.items o)) old mid h (omega arith) (omega (arith, ap (λ (m : ConstEl). length (constant.items m)) is, items-constant (entry x))) r a
+
+pub names_added : (es : List rust.Entry) (i : ℕ) (old new : Parts) → i ≡ length es → length es ≤ 4096 → Begun Name (λ e. spelled_as name (name_of (entry e))) es i old new → AddsAll Name (map (λ e. spelled_as name (name_of e)) (map entry es)) old new
+names_added es i old new all few a = all_same Name _ _ old new (map_map entry (λ e. spelled_as name (name_of e)) es) (many_added Name (λ e. spelled_as name (name_of (entry e))) es i old new all (omega arith) a)
+
+pub objects_added : (es : List rust.Entry) (i : ℕ) (old new : Parts) → i ≡ length es → length es ≤ 4096 → Begun Obj object_bytes es i old new → AddsAll Obj (map (λ e. spelled_as constant (object_of e)) (map entry es)) old new
+objects_added es i old new all few a = all_same Obj _ _ old new (map_map entry (λ e. spelled_as constant (object_of e)) es) (many_added Obj object_bytes es i old new all (omega arith) a)
+
+-- ---- sections one after another
+
+pub front_is : (x : Elements) (p0 p1 p2 p3 p4 : Parts) → p0 ≡ no_elements → p1 ≡ with_elements Str x.strings p0 → p2 ≡ with_elements PosBase (map (λ file. spelled_as posbase (base_of file)) x.bases) p1 → p3 ≡ with_elements Pkg (spelled_as pkg (package_of x) ∷ []) p2 → p4 ≡ with_elements Name (map (λ e. spelled_as name (name_of e)) x.entries) p3 → p4 ≡ front x
+front_is x p0 p1 p2 p3 p4 a b c d e =
+    e ∙ ap (with_elements Name (map (λ e. spelled_as name (name_of e)) x.entries)) (d ∙ ap (with_elements Pkg (spelled_as pkg (package_of x) ∷ [])) (c ∙ ap (with_elements PosBase (map (λ file. spelled_as posbase (base_of file)) x.bases)) (b ∙ ap (with_elements Str x.strings) a)))
+
+pub middle_is : (x : Elements) (p0 p1 p2 p3 p4 : Parts) → p0 ≡ front x → p1 ≡ with_elements Types (types_of x.entries) p0 → p2 ≡ with_elements Obj (map (λ e. spelled_as constant (object_of e)) x.entries) p1 → p3 ≡ with_elements ObjExt (map (λ e. extension_bytes) x.entries) p2 → p4 ≡ with_elements ObjDict (map (λ e. dictionary_bytes) x.entries) p3 → p4 ≡ middle x
+middle_is x p0 p1 p2 p3 p4 a b c d e =
+    e ∙ ap (with_elements ObjDict (map (λ e. dictionary_bytes) x.entries)) (d ∙ ap (with_elements ObjExt (map (λ e. extension_bytes) x.entries)) (c ∙ ap (with_elements Obj (map (λ e. spelled_as constant (object_of e)) x.entries)) (b ∙ ap (with_elements Types (types_of x.entries)) a)))

@@ -1,54 +1,21 @@
--- The elements of the file of a package of constants, as numbers. This project's own.
---
--- An element but a String is its table and its data, all numbers here: how many targets the table has, their sections
--- and places, and then the data, which name a target by its place in the table. A truth value is the number 0 or 1.
-use Rattle.std.specs.Prelude.{ℕ, ◌+◌, ◌*◌, ◌==◌, if◌then◌else◌, List, [], ◌∷◌, ◌++◌, map, length}
-use Rattle.std.specs.List.{flat_map, range_with_len}
-use Rattle.ui_frame.specs.Number.{uint}
+-- The elements of the linked file of a package of constants. This project's own.
+use Rattle.std.specs.Prelude.{ℕ, List, [], ◌∷◌, map}
 use Rattle.ui_frame.specs.Container.{Parts}
-
--- the spelling of numbers, one after another
-abbrev pub numbers : List ℕ → List ℕ
-numbers ns = flat_map uint ns
-
--- PosBase: uses the String of its file's name; and 1, which marks a whole file
-abbrev pub base_numbers : ℕ → List ℕ
-base_numbers file = 1 ∷ 0 ∷ file ∷ 0 ∷ 1 ∷ []
-
--- Pkg: uses the Strings of its path and its name, which may be one
-abbrev pub package_numbers : ℕ → ℕ → List ℕ
-package_numbers path name = if path == name then 1 ∷ 0 ∷ path ∷ 0 ∷ 0 ∷ [] else 2 ∷ 0 ∷ path ∷ 0 ∷ name ∷ 0 ∷ 1 ∷ []
-
--- Name: uses the one Pkg and the String of the name; and 1, the code of a constant
-abbrev pub name_numbers : ℕ → List ℕ
-name_numbers name = 2 ∷ 3 ∷ 0 ∷ 0 ∷ name ∷ 0 ∷ 1 ∷ 1 ∷ []
-
--- Type: no table; 0, the code of a basic type; and 20, an untyped whole number
-abbrev pub type_numbers : List ℕ
-type_numbers = 0 ∷ 0 ∷ 20 ∷ []
-
--- Obj: uses the PosBase and the one Type. Its place is there (1), at the PosBase, the line and the column; its type isn't
--- derived (0); its value isn't complex (0), has 64 bits (2), and is a signed number that isn't negative.
-abbrev pub object_numbers : ℕ → ℕ → ℕ → ℕ → List ℕ
-object_numbers base line column value = 2 ∷ 2 ∷ base ∷ 5 ∷ 0 ∷ 1 ∷ 0 ∷ line ∷ column ∷ 0 ∷ 1 ∷ 0 ∷ 2 ∷ 2 * value ∷ []
-
--- ObjExt: nothing
-abbrev pub extension_numbers : List ℕ
-extension_numbers = 0 ∷ []
-
--- ObjDict: nothing, seven times
-abbrev pub dictionary_numbers : List ℕ
-dictionary_numbers = 0 ∷ 0 ∷ 0 ∷ 0 ∷ 0 ∷ 0 ∷ 0 ∷ 0 ∷ []
-
--- the public root: uses the one Pkg and the objects; the package isn't a copy (0); and each object, without arguments
-abbrev pub public_root : List ℕ → List ℕ
-public_root objects =
-    (1 + length objects) ∷ 3 ∷ 0 ∷ flat_map (λ object. 6 ∷ object ∷ []) objects
-    ++ 0 ∷ 0 ∷ length objects ∷ flat_map (λ place. 0 ∷ place ∷ 0 ∷ []) (range_with_len 1 (length objects))
-
--- the private root: no packages below
-abbrev pub private_root : List ℕ
-private_root = 0 ∷ 0 ∷ []
+use Rattle.ui_strpos.specs.Format.{Format}
+use Rattle.ui_strpos.specs.Items.{spelling}
+use Rattle.ui_strpos.specs.Elements as one
+use Rattle.ui_strpos.specs.declared.posbase.PosBaseEl.{PosBaseEl}
+use Rattle.ui_strpos.specs.declared.pkg.PkgEl.{PkgEl}
+use Rattle.ui_strpos.specs.declared.name.NameEl.{NameEl}
+use Rattle.ui_strpos.specs.declared.name.NameKind.TheVariants.{Const}
+use Rattle.ui_eobj.specs.Objects as object
+use Rattle.ui_eobj.specs.Roots as root
+use Rattle.ui_eobj.specs.declared.object.ConstEl.{ConstEl}
+use Rattle.ui_eobj.specs.declared.root.ObjectUse.{ObjectUse}
+use Rattle.ui_eobj.specs.declared.root.BelowEl.{BelowEl}
+use Rattle.ui_eobj.specs.declared.root.PublicRootEl.{PublicRootEl}
+use Rattle.ui_eobj.specs.declared.root.PrivateRootEl.{PrivateRootEl}
+use Rattle.ui_eobj.specs.declared.value.ValueEl.{ValueEl}
 
 -- a constant: the places of its name among the Strings and of its file among the PosBases, and what they don't say
 pub record Entry : Type 0 where
@@ -56,10 +23,11 @@ pub record Entry : Type 0 where
   pub base : ℕ
   pub line : ℕ
   pub column : ℕ
-  pub value : ℕ
+  pub value : ValueEl
 
 -- What the elements of a file are made of: the Strings, the places of the package's path and name among them, for each
--- PosBase the place of its file's name, the constants, and the places of the constants in the order of the public root.
+-- PosBase the place of its file's name, the constants, the places of the constants in the order of the public root, and
+-- the packages below.
 pub record Elements : Type 0 where
   pub strings : List (List ℕ)
   pub path : ℕ
@@ -67,29 +35,66 @@ pub record Elements : Type 0 where
   pub bases : List ℕ
   pub entries : List Entry
   pub order : List ℕ
+  pub below : List BelowEl
+
+-- ---- the elements
+
+abbrev pub base_of : ℕ → PosBaseEl
+base_of file = record { file = file }
+
+abbrev pub package_of : Elements → PkgEl
+package_of x = record { path = x.path; name = x.name }
+
+-- the Name of a constant, of the one Pkg
+abbrev pub name_of : Entry → NameEl
+name_of e = record { pkg = 0; name = e.name; kind = Const }
+
+-- the Obj of a constant, of the one Type
+abbrev pub object_of : Entry → ConstEl
+object_of e = record { pos = record { base = e.base; line = e.line; column = e.column }; ty = 0; value = e.value }
+
+abbrev pub use_of : ℕ → ObjectUse
+use_of k = record { object = k }
+
+abbrev pub public_of : Elements → PublicRootEl
+public_of x = record { pkg = 0; objects = map use_of x.order }
+
+abbrev pub private_of : Elements → PrivateRootEl
+private_of x = record { below = x.below }
+
+-- ---- their bytes
+
+abbrev pub spelled_as : {A : Type 0} → Format A → A → List ℕ
+spelled_as f a = spelling (f.items a)
+
+-- Type: no table; 0, the code of a basic type; and 20, an untyped whole number
+abbrev pub type_bytes : List ℕ
+type_bytes = 0 ∷ 0 ∷ 20 ∷ []
+
+-- ObjExt: nothing
+abbrev pub extension_bytes : List ℕ
+extension_bytes = 0 ∷ []
+
+-- ObjDict: nothing, seven times
+abbrev pub dictionary_bytes : List ℕ
+dictionary_bytes = 0 ∷ 0 ∷ 0 ∷ 0 ∷ 0 ∷ 0 ∷ 0 ∷ 0 ∷ []
 
 -- the one Type stands where there is a constant
 abbrev pub types_of : List Entry → List (List ℕ)
 types_of [] = []
-types_of (e ∷ es) = numbers type_numbers ∷ []
-
-abbrev pub name_of : Entry → List ℕ
-name_of e = numbers (name_numbers e.name)
-
-abbrev pub object_of : Entry → List ℕ
-object_of e = numbers (object_numbers e.base e.line e.column e.value)
+types_of (e ∷ es) = type_bytes ∷ []
 
 -- the sections, in the order of their numbers
 unfoldable pub spelled : Elements → Parts
 spelled x =
     x.strings
-    ∷ (numbers (public_root x.order) ∷ numbers private_root ∷ [])
-    ∷ map (λ file. numbers (base_numbers file)) x.bases
-    ∷ (numbers (package_numbers x.path x.name) ∷ [])
-    ∷ map name_of x.entries
+    ∷ (spelled_as root.public_root (public_of x) ∷ spelled_as root.private_root (private_of x) ∷ [])
+    ∷ map (λ file. spelled_as one.posbase (base_of file)) x.bases
+    ∷ (spelled_as one.pkg (package_of x) ∷ [])
+    ∷ map (λ e. spelled_as one.name (name_of e)) x.entries
     ∷ types_of x.entries
-    ∷ map object_of x.entries
-    ∷ map (λ e. numbers extension_numbers) x.entries
-    ∷ map (λ e. numbers dictionary_numbers) x.entries
+    ∷ map (λ e. spelled_as object.constant (object_of e)) x.entries
+    ∷ map (λ e. extension_bytes) x.entries
+    ∷ map (λ e. dictionary_bytes) x.entries
     ∷ []
     ∷ []

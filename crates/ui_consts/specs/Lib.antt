@@ -1,9 +1,7 @@
-pub mod Export
-pub mod Source
 pub mod Elements
 pub mod Record
+pub mod Reading
 pub mod Size
-pub mod Constants
-pub mod Adding
+pub mod Known
 pub mod Writing
 pub mod Numbering

@@ -1,20 +1,17 @@
-//! Packages of constants: from their source text to the container of their linked file, and back.
+//! Linked files of packages of constants, with the packages below: written, and read back.
 //!
-//! `specs/Source.antt` defines the simple form of a source, `specs/Export.antt` what it declares,
-//! `specs/Elements.antt` the elements of a file, and `specs/Record.antt` what they stand for.
+//! `specs/Elements.antt` gives the elements of such a file, `specs/Record.antt` what they stand for, and
+//! `specs/Reading.antt` how a file is read. The law `reads_back` joins the last two.
 #![tactic(auto)]
 
-mod elements;
+mod laws;
 mod numbered;
-mod package;
 mod read;
-mod source;
 mod write;
 
-pub use package::{Constant, Package};
-pub use read::{read_linked, reads_back};
-pub use source::{is_ascii_name, read_source};
-pub use ui_base::NoMemory;
+pub use laws::{lists_are_lists, reads_back};
+pub use read::read_linked;
+pub use ui_exports::{Below, Constant, Linked, NoMemory, Package};
 pub use write::write_linked;
 
 #[cfg(test)]

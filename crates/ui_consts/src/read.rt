@@ -1,250 +1,275 @@
-// A package read from its linked file.
-ghost use Rattle.std.specs.Prelude.{◌≡◌, Some, option_map, slice_get, slice_index, bytes_eq, IfOk, OnOk};
+// A linked file, read.
+ghost use Rattle.std.specs.Prelude.{◌≡◌, ◌<◌, ◌^◌, [], length, map, option_map, IfOk, IfSome, bytes_eq};
 ghost use Rattle.std.specs.Option.{option_copied};
-ghost use Rattle.std.specs.FinMap.{from_entries, insert};
-ghost use Rattle.ui_frame.specs.Container.{Parts, section};
-ghost use Rattle.ui_consts.specs.Export.{Export};
-ghost use Rattle.ui_consts.specs.Constants.{declaration, declarations_of};
-ghost use Rattle.ui_consts.specs.Elements.{package_numbers};
-ghost use Rattle.ui_consts.specs.Record as record_of;
-ghost use Rattle.ui_consts.specs.Record.{StandsFor, entry_of_place, record_in};
+ghost use Rattle.std.specs.FinMap.{from_entries};
+ghost use Rattle.ui_frame.specs.Container.{section};
+ghost use Rattle.ui_exports.specs.Adding.{with_decls};
+ghost use Rattle.ui_exports.specs.Constants.{declaration};
+ghost use Rattle.ui_exports.specs.Linked.{belows};
+ghost use Rattle.ui_consts.specs.Known.{HavePrints, IsSmallValue};
+ghost use Rattle.ui_consts.specs.Record.{below_by, over, value_of};
+ghost use Rattle.ui_consts.specs.Reading as reading;
+ghost use Rattle.ui_consts.specs.Reading.{record_in};
 
-use crate::elements::{base_numbers, long_package, name_numbers, object_numbers, short_package};
-use crate::package::{Constant, Package};
-use std::alloc::Global;
-use std::collections::BTreeMap;
-use ui_base::{NoMemory, Pos, Text};
-use ui_frame::{Frame, Section, get_uint};
+use std::alloc::{AllocError, Global};
+use ui_base::{Pos, Text};
+use ui_eobj::{BelowEl, ConstEl, PrivateRootEl, ValueEl, magnitude_number};
+use ui_exports::{Below, Constant, Linked, NoMemory, Package};
+use ui_frame::{Frame, Section};
+use ui_strpos::{Element, ElementFault, NameEl, NameKind, PkgEl, PosBaseEl, Shape, read_element};
 
-/// The most numbers of an element that is read: those of an Obj.
-const NUMBERS: usize = 14;
+/// The elements of these files don't look at a shape.
+const PLAIN: Shape = Shape {
+    code: 0,
+    params: 0,
+    methods: 0,
+};
 
-// The numbers of an element, or nothing where other bytes stand in it or too many numbers.
-fn numbers_in(alloc: Global, bytes: &[u8]) -> Result<Option<Vec<u64>>, NoMemory>
-    ensures { IfOk result (λ o. option_map (λ v. v.items) o ≡ record_of.numbers_in bytes.now) }
+/// The Type of an untyped whole number.
+pub(crate) const TYPE: [u8; 3] = [0, 0, 20];
+
+// An element by its place, or nothing where no bytes, or others, stand there.
+#[tactic(auto, unfolding(crate::specs::Reading::element))]
+fn element_at<'a, E: Element + Drop>(
+    alloc: Global,
+    frame: &'a Frame<'a>,
+    s: Section,
+    k: u32,
+) -> Result<Option<E>, NoMemory>
+    ensures read { IfOk result (λ o. o ≡ reading.element E.format frame.now s k) }
+    ensures fits { IfOk result (λ o. IfSome o (E.format.fits (over frame.now))) }
 {
-    let mut numbers = Vec::new(alloc);
-    let mut at = 0;
-    for _i in 0..NUMBERS {
-        if at == bytes.len() {
-            return Ok(Some(numbers));
-        }
-        match get_uint(bytes, at) {
-            Ok((number, next)) => {
-                numbers.push(number)?;
-                at = next;
-            }
-            Err(_) => return Ok(None),
-        }
-    }
-    if at == bytes.len() {
-        Ok(Some(numbers))
-    } else {
-        Ok(None)
-    }
-}
-
-// The number at a place, or 0 where there are fewer.
-fn number_at(numbers: &[u64], place: usize) -> u64
-    ensures { result ≡ slice_index numbers.now place }
-{
-    match numbers.get(place) {
-        Some(number) => *number,
-        None => 0,
+    let Some(bytes) = frame.element(s, k) else {
+        return Ok(None);
+    };
+    match read_element::<E>(alloc, bytes, 0, frame, &PLAIN) {
+        Ok(element) => Ok(Some(element)),
+        Err(ElementFault::Bad { .. }) => Ok(None),
+        Err(ElementFault::NoMemory) => Err(AllocError),
     }
 }
 
-// An element by its place, which an element of the file gives.
-fn element_at<'a>(frame: &Frame<'a>, s: Section, place: u64) -> Option<&'a [u8]>
-    ensures { option_copied result ≡ slice_get (section s frame.now) place }
+// A String by its place. An element that was read uses only those that there are.
+fn text_at<'a>(frame: &Frame<'a>, k: u32) -> &'a [u8]
+    ensures { result.now ≡ reading.text_in frame.now k }
 {
-    let count = frame.count(s);
-    if place < u64::from(count) {
-        frame.element(s, place as u32)
+    match frame.element(Section::Str, k) {
+        Some(text) => text,
+        None => &[],
+    }
+}
+
+// The path and the name of the first Pkg, as a package that declares nothing yet.
+#[tactic(auto, unfolding(ui_exports::specs::Constants::declarations_of))]
+fn package_in<'a>(alloc: Global, frame: &'a Frame<'a>) -> Result<Option<Package>, NoMemory>
+    ensures { IfOk result (λ o. o ≡ option_map (λ p. record { path = p.0; name = p.1; decls = from_entries [] }) (reading.package_in frame.now)) }
+{
+    let Some(package) = element_at::<PkgEl>(alloc, frame, Section::Pkg, 0)? else {
+        return Ok(None);
+    };
+    let path = text_at(frame, package.path);
+    let name = text_at(frame, package.name);
+    Ok(Some(Package::new(alloc, path, name)?))
+}
+
+// The name of a constant of the first Pkg.
+fn const_name<'a>(frame: &Frame<'a>, name: &NameEl) -> Option<&'a [u8]>
+    ensures { option_copied result ≡ reading.const_name frame.now name.now }
+{
+    if name.pkg == 0 && matches!(name.kind, NameKind::Const) {
+        Some(text_at(frame, name.name))
     } else {
         None
     }
 }
 
+// The name of a constant by its place.
+fn name_in<'a>(alloc: Global, frame: &'a Frame<'a>, k: u32) -> Result<Option<&'a [u8]>, NoMemory>
+    ensures { IfOk result (λ o. option_copied o ≡ reading.name_in frame.now k) }
+{
+    match element_at::<NameEl>(alloc, frame, Section::Name, k)? {
+        Some(name) => Ok(const_name(frame, &name)),
+        None => Ok(None),
+    }
+}
+
 // The file's name of a PosBase by its place.
-fn file_in<'a>(alloc: Global, frame: &Frame<'a>, place: u64) -> Result<Option<&'a [u8]>, NoMemory>
-    ensures { IfOk result (λ o. option_copied o ≡ record_of.file_in frame.now place) }
+fn file_in<'a>(alloc: Global, frame: &'a Frame<'a>, k: u32) -> Result<Option<&'a [u8]>, NoMemory>
+    ensures { IfOk result (λ o. option_copied o ≡ reading.file_in frame.now k) }
 {
-    let Some(element) = element_at(frame, Section::PosBase, place) else {
-        return Ok(None);
-    };
-    let Some(numbers) = numbers_in(alloc, element)? else {
-        return Ok(None);
-    };
-    let file = number_at(&numbers, 2);
-    if numbers.as_slice() != base_numbers(file).as_slice() {
-        return Ok(None);
-    }
-    Ok(element_at(frame, Section::Str, file))
-}
-
-// Whether the numbers are those of a Pkg that uses these places.
-fn is_package(numbers: &[u64], path: u64, name: u64) -> bool
-    ensures { result ≡ bytes_eq numbers.now (package_numbers path name) }
-{
-    if path == name {
-        numbers == short_package(path).as_slice()
-    } else {
-        numbers == long_package(path, name).as_slice()
+    match element_at::<PosBaseEl>(alloc, frame, Section::PosBase, k)? {
+        Some(base) => Ok(Some(text_at(frame, base.file))),
+        None => Ok(None),
     }
 }
 
-// The path and the name of the first Pkg.
-fn package_in<'a>(
+// Whether a Type is that of an untyped whole number.
+fn is_whole_type(frame: &Frame, k: u32) -> bool
+    ensures { result ≡ reading.is_whole_type frame.now k }
+{
+    match frame.element(Section::Types, k) {
+        Some(bytes) => bytes == TYPE.as_slice(),
+        None => false,
+    }
+}
+
+// A value that isn't negative.
+fn value_in(frame: &Frame, value: ValueEl) -> Option<u128>
+    requires { IsSmallValue (section Section.Str frame.now) value }
+    ensures { result ≡ value_of (section Section.Str frame.now) value }
+{
+    match value {
+        ValueEl::Int64(number) => u128::try_from(number).ok(),
+        ValueEl::Big {
+            magnitude,
+            negative: false,
+        } => magnitude_number(text_at(frame, magnitude)),
+        ValueEl::Big { negative: true, .. } => None,
+    }
+}
+
+// What a constant declares, by its Obj.
+fn constant_of<'a>(
     alloc: Global,
-    frame: &Frame<'a>,
-) -> Result<Option<(&'a [u8], &'a [u8])>, NoMemory>
-    ensures { IfOk result (λ o. option_map (λ p. (p.0.now, p.1.now)) o ≡ record_of.package_in frame.now) }
+    frame: &'a Frame<'a>,
+    object: &ConstEl,
+) -> Result<Option<Constant>, NoMemory>
+    requires { IsSmallValue (section Section.Str frame.now) object.now.value }
+    ensures { IfOk result (λ o. option_map declaration o ≡ reading.declared frame.now object.now) }
 {
-    let Some(element) = frame.element(Section::Pkg, 0) else {
-        return Ok(None);
-    };
-    let Some(numbers) = numbers_in(alloc, element)? else {
-        return Ok(None);
-    };
-    let path = number_at(&numbers, 2);
-    let name = if numbers.len() == 5 {
-        path
-    } else {
-        number_at(&numbers, 4)
-    };
-    if !is_package(&numbers, path, name) {
+    if !is_whole_type(frame, object.ty) {
         return Ok(None);
     }
-    let Some(path) = element_at(frame, Section::Str, path) else {
+    let Some(file) = file_in(alloc, frame, object.pos.base)? else {
         return Ok(None);
     };
-    let Some(name) = element_at(frame, Section::Str, name) else {
-        return Ok(None);
-    };
-    Ok(Some((path, name)))
-}
-
-// The name of a constant, by its Name.
-fn name_in<'a>(
-    alloc: Global,
-    frame: &Frame<'a>,
-    element: &[u8],
-) -> Result<Option<&'a [u8]>, NoMemory>
-    ensures { IfOk result (λ o. option_copied o ≡ record_of.name_in frame.now element.now) }
-{
-    let Some(numbers) = numbers_in(alloc, element)? else {
-        return Ok(None);
-    };
-    let name = number_at(&numbers, 4);
-    if numbers.as_slice() != name_numbers(name).as_slice() {
-        return Ok(None);
-    }
-    Ok(element_at(frame, Section::Str, name))
-}
-
-// A constant, by its Obj.
-fn object_in(alloc: Global, frame: &Frame, element: &[u8]) -> Result<Option<Constant>, NoMemory>
-    ensures { IfOk result (λ o. option_map declaration o ≡ record_of.object_in frame.now element.now) }
-{
-    let Some(numbers) = numbers_in(alloc, element)? else {
-        return Ok(None);
-    };
-    let base = number_at(&numbers, 2);
-    let line = number_at(&numbers, 7);
-    let column = number_at(&numbers, 8);
-    let value = number_at(&numbers, 13) / 2;
-    if numbers.as_slice() != object_numbers(base, line, column, value).as_slice() {
-        return Ok(None);
-    }
-    let (Ok(line), Ok(col)) = (u32::try_from(line), u32::try_from(column)) else {
-        return Ok(None);
-    };
-    let Some(file) = file_in(alloc, frame, base)? else {
+    let Some(value) = value_in(frame, object.value) else {
         return Ok(None);
     };
     let file = Text::from_slice(alloc, file)?;
-    let pos = Pos { file, line, col };
+    let pos = Pos {
+        file,
+        line: object.pos.line,
+        col: object.pos.column,
+    };
     Ok(Some(Constant { pos, value }))
 }
 
-// The name and the constant of a number.
-fn entry_at<'a>(
+// What a constant declares, by its place.
+fn object_in<'a>(alloc: Global, frame: &'a Frame<'a>, k: u32) -> Result<Option<Constant>, NoMemory>
+    ensures { IfOk result (λ o. option_map declaration o ≡ reading.object_in frame.now k) }
+{
+    let Some(object) = element_at::<ConstEl>(alloc, frame, Section::Obj, k)? else {
+        return Ok(None);
+    };
+    let constant = constant_of(alloc, frame, &object)?;
+    Ok(constant)
+}
+
+// A constant and its name, by its place.
+#[tactic(auto, unfolding(crate::specs::Reading::entry_in))]
+fn entry_in<'a>(
     alloc: Global,
-    frame: &Frame<'a>,
+    frame: &'a Frame<'a>,
     k: u32,
 ) -> Result<Option<(&'a [u8], Constant)>, NoMemory>
-    ensures { IfOk result (λ o. option_map (λ e. (e.0.now, declaration e.1)) o ≡ entry_of_place frame.now k) }
+    ensures { IfOk result (λ o. option_map (λ e. (e.0.now, declaration e.1)) o ≡ reading.entry_in frame.now k) }
 {
-    let Some(name) = frame.element(Section::Name, k) else {
+    let Some(name) = name_in(alloc, frame, k)? else {
         return Ok(None);
     };
-    let Some(object) = frame.element(Section::Obj, k) else {
-        return Ok(None);
-    };
-    let Some(name) = name_in(alloc, frame, name)? else {
-        return Ok(None);
-    };
-    let Some(constant) = object_in(alloc, frame, object)? else {
+    let Some(constant) = object_in(alloc, frame, k)? else {
         return Ok(None);
     };
     Ok(Some((name, constant)))
 }
 
-// The constants by their names. The first of two of one name stays.
-fn constants_in(
+// A package with the constants, the first of two of one name.
+fn with_constants<'a>(
     alloc: Global,
-    frame: &Frame,
-) -> Result<Option<BTreeMap<Vec<u8>, Constant>>, NoMemory>
-    ensures { IfOk result (λ o. option_map (λ m. declarations_of m.entries) o ≡ option_map from_entries (record_of.entries_in frame.now (section Section.Name frame.now) (section Section.Obj frame.now))) }
+    frame: &'a Frame<'a>,
+    empty: Package,
+) -> Result<Option<Package>, NoMemory>
+    requires { empty.decls ≡ from_entries [] }
+    ensures { IfOk result (λ o. o ≡ option_map (λ es. with_decls empty (from_entries es)) (reading.entries_in frame.now)) }
 {
+    let mut package = empty;
     let count = frame.count(Section::Name);
     if frame.count(Section::Obj) != count {
         return Ok(None);
     }
-    let mut constants = BTreeMap::new(alloc);
     for k in (0..count).rev() {
-        let Some((name, constant)) = entry_at(alloc, frame, k)? else {
+        let Some((name, constant)) = entry_in(alloc, frame, k)? else {
             return Ok(None);
         };
         let name = Vec::from_slice(alloc, name)?;
-        put(&mut constants, name, constant)?;
+        package.declare(name, constant)?;
     }
-    Ok(Some(constants))
+    Ok(Some(package))
 }
 
-// Puts a constant in the place of one of its name.
-fn put(
-    constants: &mut BTreeMap<Vec<u8>, Constant>,
-    name: Vec<u8>,
-    constant: Constant,
-) -> Result<(), NoMemory>
-    ensures { OnOk result (declarations_of constants.new.entries ≡ insert (declarations_of constants.old.entries) name.items (declaration constant)) }
+// What the package exports.
+#[tactic(auto, unfolding(crate::specs::Reading::export_in))]
+fn export_in<'a>(alloc: Global, frame: &'a Frame<'a>) -> Result<Option<Package>, NoMemory>
+    ensures { IfOk result (λ o. o ≡ reading.export_in frame.now) }
 {
-    constants.insert(name, constant)?;
-    Ok(())
+    let Some(package) = package_in(alloc, frame)? else {
+        return Ok(None);
+    };
+    let package = with_constants(alloc, frame, package)?;
+    Ok(package)
 }
 
-/// The package that an opened container stands for, or nothing where it stands for none. Looks at the package, the
-/// constants and what these use, and at neither root.
-#[tactic(auto, unfolding(crate::specs::Record::record_in))]
-pub fn read_linked(alloc: Global, frame: &Frame) -> Result<Option<Package>, NoMemory>
+// A package below by its entry.
+fn below_of(alloc: Global, frame: &Frame, entry: &BelowEl) -> Result<Below, NoMemory>
+    requires { length (reading.text_in frame.now entry.now.print) ≡ 8 }
+    ensures { IfOk result (λ b. record { path = b.path; print = b.print; direct = b.direct } ≡ below_by (section Section.Str frame.now) entry.now) }
+{
+    let path = Text::from_slice(alloc, text_at(frame, entry.path))?;
+    let mut print = [0; 8];
+    print.copy_from_slice(text_at(frame, entry.print));
+    Ok(Below {
+        path,
+        print,
+        direct: entry.direct,
+    })
+}
+
+// The packages below by their entries.
+fn belows_of(alloc: Global, frame: &Frame, entries: &[BelowEl]) -> Result<Vec<Below>, NoMemory>
+    requires { HavePrints (section Section.Str frame.now) entries.now }
+    ensures { IfOk result (λ v. belows v ≡ map (below_by (section Section.Str frame.now)) entries.now) }
+{
+    let mut belows = Vec::new(alloc);
+    for entry in entries {
+        belows.push(below_of(alloc, frame, entry)?)?;
+    }
+    Ok(belows)
+}
+
+// The packages below.
+#[tactic(auto, unfolding(crate::specs::Reading::below_in))]
+fn below_in<'a>(alloc: Global, frame: &'a Frame<'a>) -> Result<Option<Vec<Below>>, NoMemory>
+    ensures { IfOk result (λ o. option_map belows o ≡ reading.below_in frame.now) }
+{
+    let Some(root) = element_at::<PrivateRootEl>(alloc, frame, Section::Meta, 1)? else {
+        return Ok(None);
+    };
+    let belows = belows_of(alloc, frame, root.below.items())?;
+    Ok(Some(belows))
+}
+
+/// What an opened container stands for, or nothing where it stands for nothing. Looks at the package, the constants and
+/// what these use, and the private root; not at the public root, and at no element that nothing uses.
+#[tactic(auto, unfolding(crate::specs::Reading::record_in))]
+pub fn read_linked(alloc: Global, frame: &Frame) -> Result<Option<Linked>, NoMemory>
     ensures { IfOk result (λ o. o ≡ record_in frame.now) }
 {
-    let Some((path, name)) = package_in(alloc, frame)? else {
+    let Some(package) = export_in(alloc, frame)? else {
         return Ok(None);
     };
-    let Some(constants) = constants_in(alloc, frame)? else {
+    let Some(below) = below_in(alloc, frame)? else {
         return Ok(None);
     };
-    Ok(Some(Package {
-        path: Text::from_slice(alloc, path)?,
-        name: Text::from_slice(alloc, name)?,
-        constants,
-    }))
+    Ok(Some(Linked { package, below }))
 }
-
-/// Parts that stand for an export are read as it, so they stand for no other.
-pub fn reads_back()
-    ensures { (parts : Parts) (e : Export) → StandsFor parts e → record_in parts ≡ Some e }
-{}

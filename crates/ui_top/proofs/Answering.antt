@@ -7,7 +7,7 @@ use Rattle.std.proofs.lemmas.List.{map-append, take_more, take-append-drop}
 use Rattle.std.proofs.lemmas.List.Folds.{list_all-append}
 use Rattle.ui_store.specs.Told.{more, more_twice}
 use Rattle.ui_store.specs.Sinks.{Partly, partly_all, partly_first, partly_next}
-use Rattle.ui_consts.specs.Export.{Export}
+use Rattle.ui_exports.specs.Export.{Export}
 use Rattle.ui_top.specs.Answers.{answer, answers, are_answered}
 use Rattle.ui_top.specs.Outcome.{words_of}
 

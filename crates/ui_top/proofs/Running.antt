@@ -5,21 +5,23 @@ use Rattle.ui_store.specs.Causes.{Rose}
 use Rattle.ui_store.specs.Told.{more, more_none}
 use Rattle.ui_store.specs.Sinks.{Partly, partly_none}
 use Rattle.ui_store.specs.Files.{Files}
-use Rattle.ui_consts.specs.Export.{Export}
-use Rattle.ui_top.specs.Plan.{Text, Refusal, NoFile, Form, TooLong, BadFrame, BadElement, Plan}
-use Rattle.ui_top.specs.Package.{build}
+use Rattle.ui_store.specs.Calls.{Hearing}
+use Rattle.ui_exports.specs.Export.{Export}
+use Rattle.ui_build.specs.Plan.{Text, Refusal, NoFile, Form, Faulty, TooLong, BadFrame, BadElement, TooMany, Cycle, Stale, Plan}
+use Rattle.ui_build.specs.Build.{build}
 use Rattle.ui_top.specs.Answers.{answers, are_answered}
 use Rattle.ui_top.specs.Outcome.{Outcome, Command, Build, outcome, of_plan, ends_of, out_of, line_of, refused_as, refusal_line}
-use Rattle.ui_top.specs.Stops.{State, state, Ends, Stops, DoesStop, Does, DoesTold, StopCause, refusal_of}
+use Rattle.ui_build.specs.Stops.{State, state, Ends, Stops, DoesStop, Does, DoesTold, StopCause, refusal_of}
 use Rattle.ui_top.specs.Ends.{status_of, stop_line, answers_status, answers_line}
-use Rattle.ui_top.specs.Scene.{Scene, Said, Reached, Excused, Reaches, Caused, Runs, Completes, IsExcused}
+use Rattle.ui_build.specs.Heard.{Hears, RefusedBy, Builds}
+use Rattle.ui_top.specs.Scene.{Scene, Said, Reached, Excused, Reaches, Built, Caused, Runs, Completes, IsExcused}
 use Rattle.ui_top.specs.declared.answers.Unanswered.{Unanswered}
 use Rattle.ui_top.specs.declared.answers.Unanswered.TheVariants as unanswered
 use Rattle.ui_top.specs.declared.status.Status.{Status}
 use Rattle.ui_top.specs.declared.status.Status.TheVariants as status
-use Rattle.ui_top.specs.declared.stop.Stop.{Stop}
-use Rattle.ui_top.specs.declared.stop.Stop.TheVariants as stop
-use Rattle.ui_top.proofs.Steps.{asks_all, puts_all}
+use Rattle.ui_build.specs.declared.stop.Stop.{Stop}
+use Rattle.ui_build.specs.declared.stop.Stop.TheVariants as stop
+use Rattle.ui_build.proofs.Steps.{asks_all, puts_all}
 
 -- the store's part of a scene
 abbrev store_of : Scene → State
@@ -45,18 +47,27 @@ stop_reaches queries plan old new (stop.ReadFault name) does out said = inl (sto
 stop_reaches queries plan old new (stop.WriteFault name) does out said = inl (stops_excused queries plan old new status.WriteFault tt does out)
 stop_reaches queries plan old new stop.NoMemory does out said = inl (stops_excused queries plan old new status.NoMemory tt does out)
 
-refusal_caused : (path : Text) (queries : List Text) (old new : Scene) (r : Refusal) → Caused (Build path queries) old new (refused_as r)
-refusal_caused path queries old new (NoFile name) = tt
-refusal_caused path queries old new (Form name) = tt
-refusal_caused path queries old new (TooLong name) = tt
-refusal_caused path queries old new (BadFrame name fault) = tt
-refusal_caused path queries old new (BadElement name) = tt
+-- what was heard is why
+refusal_caused : (path : Text) (queries : List Text) (old new : Scene) (r : Refusal) (heard : List Hearing) → new.heard ≡ more old.heard heard → RefusedBy r heard → Said (refusal_line r) old new → new.out ≡ old.out → Caused (Build path queries) old new (refused_as r)
+refusal_caused path queries old new (NoFile name) heard told by said out = record { refusal = NoFile name; heard = heard; told = told; refused = by; status = refl; line = said; out = out }
+refusal_caused path queries old new (Form name) heard told by said out = record { refusal = Form name; heard = heard; told = told; refused = by; status = refl; line = said; out = out }
+refusal_caused path queries old new (Faulty fault) heard told by said out = record { refusal = Faulty fault; heard = heard; told = told; refused = by; status = refl; line = said; out = out }
+refusal_caused path queries old new (TooLong name) heard told by said out = record { refusal = TooLong name; heard = heard; told = told; refused = by; status = refl; line = said; out = out }
+refusal_caused path queries old new (BadFrame name fault) heard told by said out = record { refusal = BadFrame name fault; heard = heard; told = told; refused = by; status = refl; line = said; out = out }
+refusal_caused path queries old new (BadElement name) heard told by said out = record { refusal = BadElement name; heard = heard; told = told; refused = by; status = refl; line = said; out = out }
+refusal_caused path queries old new TooMany heard told by said out = record { refusal = TooMany; heard = heard; told = told; refused = by; status = refl; line = said; out = out }
+refusal_caused path queries old new (Cycle at) heard told by said out = record { refusal = Cycle at; heard = heard; told = told; refused = by; status = refl; line = said; out = out }
+refusal_caused path queries old new (Stale at first second) heard told by said out = record { refusal = Stale at first second; heard = heard; told = told; refused = by; status = refl; line = said; out = out }
 
-stop_caused : (path : Text) (queries : List Text) (old new : Scene) (s : Stop) → StopCause old.faults new.faults new.asked s → Said (stop_line s) old new → Caused (Build path queries) old new (status_of s)
-stop_caused path queries old new (stop.Refused r) cause said = refusal_caused path queries old new (refusal_of r)
-stop_caused path queries old new (stop.ReadFault name) cause said = (cause.0, (string_bytes name, cause.1, said))
-stop_caused path queries old new (stop.WriteFault name) cause said = (cause.0, (string_bytes name, cause.1, said))
-stop_caused path queries old new stop.NoMemory cause said = said
+-- a build that ended so by what it heard
+abbrev BuildHears : Text → Scene → Scene → Result Export Stop → Type 0
+BuildHears path old new result = Hears (Builds path) old.heard new.heard result
+
+stop_caused : (path : Text) (queries : List Text) (old new : Scene) (s : Stop) → StopCause old.faults new.faults new.asked s → BuildHears path old new (Err s) → new.out ≡ old.out → Said (stop_line s) old new → Caused (Build path queries) old new (status_of s)
+stop_caused path queries old new (stop.Refused r) cause hears out said = refusal_caused path queries old new (refusal_of r) hears.heard hears.told hears.ends said out
+stop_caused path queries old new (stop.ReadFault name) cause hears out said = (cause.0, (string_bytes name, cause.1, said), out)
+stop_caused path queries old new (stop.WriteFault name) cause hears out said = (cause.0, (string_bytes name, cause.1, said), out)
+stop_caused path queries old new stop.NoMemory cause hears out said = (said, inl out)
 
 told_stop_reaches : (path : Text) (queries : List Text) (files : Option Files) (old new : Scene) (s : Stop) → IfSome files (λ told. DoesStop (build told path) (store_of old) (store_of new) s) → new.out ≡ old.out → Said (stop_line s) old new
     → IfSome files (λ told. Reaches (outcome told (Build path queries)) old new (status_of s))
@@ -71,12 +82,12 @@ pub record Keeps (old new : Scene) : Type 0 where
   pub steps : new.steps ≡ old.steps
 
 pub stop_runs : (path : Text) (queries : List Text) (old new : Scene) (s : Stop) (ends : Status) → ends ≡ status_of s → DoesTold (λ (e : Export). e) (λ told. build told path) (store_of old) (store_of new) (Err s)
-    → StopCause old.faults new.faults new.asked s → old.faults ≤ new.faults → new.out ≡ old.out → old.out_faults ≤ new.out_faults → Said (stop_line s) old new → Keeps old new → Runs (Build path queries) old new ends
-stop_runs path queries old new s ends is does cause later out out_later said keeps =
+    → StopCause old.faults new.faults new.asked s → BuildHears path old new (Err s) → old.faults ≤ new.faults → new.out ≡ old.out → old.out_faults ≤ new.out_faults → Said (stop_line s) old new → Keeps old new → Runs (Build path queries) old new ends
+stop_runs path queries old new s ends is does cause hears later out out_later said keeps =
     let P : Status → Type 0 = Runs (Build path queries) old new in
     subst P (sym is) (record {
       reaches = told_stop_reaches path queries old.files old new s does out said;
-      caused = stop_caused path queries old new s cause said;
+      caused = stop_caused path queries old new s cause hears out said;
       store_count = later;
       out_count = out_later;
       err_count = said.later;
@@ -124,11 +135,14 @@ answers_reach queries plan export old new (Ok all) is ends a said = inr (answers
 answers_reach queries plan export old new (Err unanswered.OutFault) is ends a said = inl (answers_excused queries plan export old new status.OutFault tt is ends a.part)
 answers_reach queries plan export old new (Err unanswered.NoMemory) is ends a said = inl (answers_excused queries plan export old new status.NoMemory tt is ends a.part)
 
-answers_caused : (path : Text) (queries : List Text) (export : Export) (old new : Scene) (answered : Result Bool Unanswered) → Answered export queries old new answered → Said (answers_line answered) old new → Caused (Build path queries) old new (answers_status answered)
-answers_caused path queries export old new (Ok true) a said = tt
-answers_caused path queries export old new (Ok false) a said = tt
-answers_caused path queries export old new (Err unanswered.OutFault) a said = (a.fault refl, said)
-answers_caused path queries export old new (Err unanswered.NoMemory) a said = said
+built : (path : Text) (export : Export) (old new : Scene) → BuildHears path old new (Ok export) → Built path export old new
+built path export old new hears = record { heard = hears.heard; told = hears.told; builds = hears.ends }
+
+answers_caused : (path : Text) (queries : List Text) (export : Export) (old new : Scene) (answered : Result Bool Unanswered) → BuildHears path old new (Ok export) → Answered export queries old new answered → Said (answers_line answered) old new → Caused (Build path queries) old new (answers_status answered)
+answers_caused path queries export old new (Ok true) hears a said = record { export = export; built = built path export old new hears; status = ap (λ b. cond b status.Ok status.QueryRefused) a.all; out = a.written; line = said }
+answers_caused path queries export old new (Ok false) hears a said = record { export = export; built = built path export old new hears; status = ap (λ b. cond b status.Ok status.QueryRefused) a.all; out = a.written; line = said }
+answers_caused path queries export old new (Err unanswered.OutFault) hears a said = (a.fault refl, said, (export, built path export old new hears, a.part))
+answers_caused path queries export old new (Err unanswered.NoMemory) hears a said = (said, inr (export, built path export old new hears, a.part))
 
 told_answers_reach : (path : Text) (queries : List Text) (export : Export) (files : Option Files) (old new : Scene) (answered : Result Bool Unanswered) → IfSome files (λ told. Does (λ (e : Export). e) (build told path) (store_of old) (store_of new) (Ok export)) → Answered export queries old new answered → Said (answers_line answered) old new
     → IfSome files (λ told. Reaches (outcome told (Build path queries)) old new (answers_status answered))
@@ -137,12 +151,12 @@ told_answers_reach path queries export None old new answered does a said = tt
 told_answers_reach path queries export (Some told) old new answered does a said = answers_reach queries (build told path) export old new answered does.0 does.1 a said
 
 pub answer_runs : (path : Text) (queries : List Text) (export : Export) (old new : Scene) (answered : Result Bool Unanswered) (ends : Status) → ends ≡ answers_status answered → DoesTold (λ (e : Export). e) (λ told. build told path) (store_of old) (store_of new) (Ok export)
-    → old.faults ≤ new.faults → Answered export queries old new answered → Said (answers_line answered) old new → Keeps old new → Runs (Build path queries) old new ends
-answer_runs path queries export old new answered ends is does later a said keeps =
+    → BuildHears path old new (Ok export) → old.faults ≤ new.faults → Answered export queries old new answered → Said (answers_line answered) old new → Keeps old new → Runs (Build path queries) old new ends
+answer_runs path queries export old new answered ends is does hears later a said keeps =
     let P : Status → Type 0 = Runs (Build path queries) old new in
     subst P (sym is) (record {
       reaches = told_answers_reach path queries export old.files old new answered does a said;
-      caused = answers_caused path queries export old new answered a said;
+      caused = answers_caused path queries export old new answered hears a said;
       store_count = later;
       out_count = a.later;
       err_count = said.later;

@@ -2,9 +2,9 @@
 use Rattle.std.specs.Prelude.{ℕ, Bool, true, false, List, ◌++◌, take, drop, flat_map, Option, Some, None, option_map, codes, bytes_eq, decimal, if◌then◌else◌}
 use Rattle.std.specs.List.{list_all}
 use Rattle.std.specs.FinMap.{get}
-use Rattle.ui_consts.specs.Export.{Export}
-use Rattle.ui_consts.specs.Source.{is_ascii_name}
-use Rattle.ui_top.specs.Plan.{Text}
+use Rattle.ui_exports.specs.Export.{Export}
+use Rattle.ui_sums.specs.Words.{is_ascii_name}
+use Rattle.ui_build.specs.Plan.{Text}
 
 -- a name, where it is one
 abbrev pub named : Text → Option Text

@@ -1,14 +1,14 @@
 -- How a command ends, and what it says, that was stopped or has answered.
 use Rattle.std.specs.Prelude.{Bool, true, false, [], Result, Ok, Err, codes, string_bytes}
-use Rattle.ui_top.specs.Plan.{Text}
+use Rattle.ui_build.specs.Plan.{Text}
 use Rattle.ui_top.specs.Outcome.{line, refused_as, refusal_line}
-use Rattle.ui_top.specs.Stops.{refusal_of}
+use Rattle.ui_build.specs.Stops.{refusal_of}
 use Rattle.ui_top.specs.declared.answers.Unanswered.{Unanswered}
 use Rattle.ui_top.specs.declared.answers.Unanswered.TheVariants as unanswered
 use Rattle.ui_top.specs.declared.status.Status.{Status}
 use Rattle.ui_top.specs.declared.status.Status.TheVariants as status
-use Rattle.ui_top.specs.declared.stop.Stop.{Stop}
-use Rattle.ui_top.specs.declared.stop.Stop.TheVariants as stop
+use Rattle.ui_build.specs.declared.stop.Stop.{Stop}
+use Rattle.ui_build.specs.declared.stop.Stop.TheVariants as stop
 
 abbrev pub status_of : Stop → Status
 status_of (stop.Refused refusal) = refused_as (refusal_of refusal)

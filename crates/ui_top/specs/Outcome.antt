@@ -1,5 +1,5 @@
 -- The outcome of each command over the files that a store tells, by the program's sources.
-use Rattle.std.specs.Prelude.{List, [], ◌∷◌, ◌++◌, map, Option, Some, None, Result, Ok, Err, String, string_bytes, codes, bytes_eq, ◌&&◌, if◌then◌else◌}
+use Rattle.std.specs.Prelude.{List, [], ◌∷◌, ◌++◌, map, Option, Some, None, Result, Ok, Err, String, string_bytes, codes, bytes_eq, decimal, ◌&&◌, if◌then◌else◌}
 use Rattle.std.specs.declared.alloc.Global.{Global}
 use Rattle.hex.specs.Hex.{encode_lower}
 use Rattle.ui_base.specs.Paths.{is_path}
@@ -7,10 +7,13 @@ use Rattle.ui_store.specs.Files.{Files}
 use Rattle.ui_store.specs.Calls.{Ask}
 use Rattle.ui_frame.specs.declared.frame.FrameFault.{FrameFault}
 use Rattle.ui_frame.specs.declared.frame.FrameFault.TheVariants as frame
-use Rattle.ui_consts.specs.Export.{Export}
-use Rattle.ui_top.specs.Plan.{Text, Refusal, NoFile, Form, TooLong, BadFrame, BadElement, Put, Plan}
-use Rattle.ui_top.specs.Package.{build}
+use Rattle.ui_types.specs.declared.check_fault.Fault.{Fault}
+use Rattle.ui_base.specs.declared.value.Pos.{Pos}
+use Rattle.ui_exports.specs.Export.{Export}
+use Rattle.ui_build.specs.Plan.{Text, Refusal, NoFile, Form, Faulty, TooLong, BadFrame, BadElement, TooMany, Cycle, Stale, Put, Plan}
+use Rattle.ui_build.specs.Build.{build}
 use Rattle.ui_top.specs.Answers.{answers, are_answered}
+use Rattle.ui_top.specs.Kinds.{kind_text}
 use Rattle.ui_top.specs.declared.status.Status.{Status}
 use Rattle.ui_top.specs.declared.status.Status.TheVariants as status
 
@@ -34,9 +37,13 @@ line label name = label ++ name ++ codes "\n"
 abbrev pub refused_as : Refusal → Status
 refused_as (NoFile name) = status.NoFile
 refused_as (Form name) = status.Refused
+refused_as (Faulty fault) = status.Refused
 refused_as (TooLong name) = status.BadFile
 refused_as (BadFrame name fault) = status.BadFile
 refused_as (BadElement name) = status.BadFile
+refused_as TooMany = status.Refused
+refused_as (Cycle path) = status.Refused
+refused_as (Stale path first second) = status.Stale
 
 -- the test of a container that failed, to the line's end; a fingerprint's with both values
 abbrev pub frame_end : FrameFault → Text
@@ -48,12 +55,30 @@ frame_end frame.Ends = codes ": Ends\n"
 frame_end frame.Length = codes ": Length\n"
 frame_end (frame.Fingerprint kept computed) = codes ": Fingerprint kept " ++ encode_lower kept ++ codes " computed " ++ encode_lower computed ++ codes "\n"
 
+-- a place, and the name that a fault speaks of, where there is one, to the line's end
+abbrev pub place : Pos → Text
+place pos = (pos.file ++ codes ":" ++ decimal pos.line) ++ (codes ":" ++ decimal pos.col ++ codes ": ")
+
+abbrev pub name_end : Text → Text
+name_end [] = codes "\n"
+name_end (x ∷ xs) = codes " " ++ (x ∷ xs) ++ codes "\n"
+
+abbrev pub fault_line : Fault → Text
+fault_line fault = place fault.pos ++ kind_text fault.kind ++ name_end fault.name
+
+abbrev pub stale_line : Text → Text → Text → Text
+stale_line path first second = (codes "stale: " ++ path ++ codes " ") ++ (encode_lower first ++ codes " " ++ encode_lower second) ++ codes "\n"
+
 abbrev pub refusal_line : Refusal → Text
 refusal_line (NoFile name) = codes "no file: " ++ name ++ codes "\n"
 refusal_line (Form name) = name ++ codes ":1:1: Form\n"
+refusal_line (Faulty fault) = fault_line fault
 refusal_line (TooLong name) = codes "bad file: " ++ name ++ codes ": TooLong\n"
 refusal_line (BadFrame name fault) = codes "bad file: " ++ name ++ frame_end fault
 refusal_line (BadElement name) = codes "bad file: " ++ name ++ codes ": Element\n"
+refusal_line TooMany = line (codes "too many packages") []
+refusal_line (Cycle path) = line (codes "import cycle: ") path
+refusal_line (Stale path first second) = stale_line path first second
 
 abbrev pub answers_end : Export → List Text → Status
 answers_end export queries = if are_answered export queries then status.Ok else status.QueryRefused

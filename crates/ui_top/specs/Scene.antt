@@ -1,14 +1,17 @@
 -- What a command does: its outcome, or a front of it where a device or memory ended it; and the cause of each end.
-use Rattle.std.specs.Prelude.{◌≡◌, ◌⊎◌, ℕ, ◌≤◌, [], Option, IfSome, codes, ⊤}
+use Rattle.std.specs.Prelude.{◌≡◌, ◌⊎◌, ℕ, ◌≤◌, List, [], Option, IfSome, codes, ⊤}
 use Rattle.ui_store.specs.Causes.{Rose}
 use Rattle.ui_store.specs.Told.{more}
 use Rattle.ui_store.specs.Sinks.{Partly}
 use Rattle.ui_store.specs.Files.{Files}
-use Rattle.ui_store.specs.Calls.{Calls, Hearings}
+use Rattle.ui_store.specs.Calls.{Calls, Hearing, Hearings}
 use Rattle.ui_store.specs.declared.store.AskKind.TheVariants as ask
-use Rattle.ui_top.specs.Plan.{Text}
-use Rattle.ui_top.specs.Stops.{Puts, PutsFront, AsksFront, EndsWith}
-use Rattle.ui_top.specs.Outcome.{Outcome, Command, Build, outcome, line, usage}
+use Rattle.ui_exports.specs.Export.{Export}
+use Rattle.ui_build.specs.Plan.{Text, Refusal}
+use Rattle.ui_top.specs.Answers.{answers}
+use Rattle.ui_build.specs.Stops.{Puts, PutsFront, AsksFront, EndsWith}
+use Rattle.ui_build.specs.Heard.{RefusedBy, Builds}
+use Rattle.ui_top.specs.Outcome.{Outcome, Command, Build, outcome, line, refused_as, refusal_line, answers_end, usage}
 use Rattle.ui_top.specs.declared.status.Status.{Status}
 use Rattle.ui_top.specs.declared.status.Status.TheVariants as status
 
@@ -88,21 +91,49 @@ Reaches want old new ends = Excused want old new ends ⊎ Reached want old new e
 abbrev pub ReadLast : Calls → Text → Type 0
 ReadLast asked name = EndsWith asked (ask.List, name) ⊎ EndsWith asked (ask.Read, name)
 
+-- The command was refused by what it heard, and says that refusal alone.
+pub record Refuses (old new : Scene) (ends : Status) : Type 0 where
+  pub refusal : Refusal
+  pub heard : List Hearing
+  pub told : new.heard ≡ more old.heard heard
+  pub refused : RefusedBy refusal heard
+  pub status : ends ≡ refused_as refusal
+  pub line : Said (refusal_line refusal) old new
+  pub out : new.out ≡ old.out
+
+-- A package was built from what was heard, and its linked file as it was heard last stands for the export.
+pub record Built (path : Text) (export : Export) (old new : Scene) : Type 0 where
+  pub heard : List Hearing
+  pub told : new.heard ≡ more old.heard heard
+  pub builds : Builds path export heard
+
+-- The queries were answered by the linked file as it was heard.
+pub record Answers (path : Text) (queries : List Text) (old new : Scene) (ends : Status) : Type 0 where
+  pub export : Export
+  pub built : Built path export old new
+  pub status : ends ≡ answers_end export queries
+  pub out : new.out ≡ more old.out (answers export queries)
+  pub line : Said [] old new
+
+-- a front of those answers is written
+abbrev pub AnswersPartly : Text → List Text → Scene → Scene → Type 0
+AnswersPartly path queries old new = (export : Export) × Built path export old new × Partly old.out new.out (answers export queries)
+
 -- Why a command ends so, over every store, source and sink: a fault comes from its device, whose count rose, and names
--- the last call; and which ends a build has.
+-- the last call; a refusal and the answers come from what the store gave; and which ends a build has.
 abbrev pub Caused : Command → Scene → Scene → Status → Type 0
-Caused command old new status.ReadFault = Rose old.faults new.faults × ((name : Text) × ReadLast new.asked name × Said (line (codes "read fault: ") name) old new)
-Caused command old new status.WriteFault = Rose old.faults new.faults × ((name : Text) × EndsWith new.asked (ask.Write, name) × Said (line (codes "write fault: ") name) old new)
-Caused command old new status.OutFault = Rose old.out_faults new.out_faults × Said (line (codes "output fault") []) old new
-Caused command old new status.NoMemory = Said (line (codes "no memory") []) old new
+Caused command old new status.ReadFault = Rose old.faults new.faults × ((name : Text) × ReadLast new.asked name × Said (line (codes "read fault: ") name) old new) × (new.out ≡ old.out)
+Caused command old new status.WriteFault = Rose old.faults new.faults × ((name : Text) × EndsWith new.asked (ask.Write, name) × Said (line (codes "write fault: ") name) old new) × (new.out ≡ old.out)
+Caused (Build path queries) old new status.OutFault = Rose old.out_faults new.out_faults × Said (line (codes "output fault") []) old new × AnswersPartly path queries old new
+Caused (Build path queries) old new status.NoMemory = Said (line (codes "no memory") []) old new × ((new.out ≡ old.out) ⊎ AnswersPartly path queries old new)
 Caused (Build path queries) old new status.Usage = ⊥
-Caused (Build path queries) old new status.Stale = ⊥
 Caused (Build path queries) old new status.InputTooLong = ⊥
-Caused command old new status.Ok = ⊤
-Caused command old new status.QueryRefused = ⊤
-Caused command old new status.Refused = ⊤
-Caused command old new status.NoFile = ⊤
-Caused command old new status.BadFile = ⊤
+Caused (Build path queries) old new status.Ok = Answers path queries old new status.Ok
+Caused (Build path queries) old new status.QueryRefused = Answers path queries old new status.QueryRefused
+Caused command old new status.Refused = Refuses old new status.Refused
+Caused command old new status.NoFile = Refuses old new status.NoFile
+Caused command old new status.BadFile = Refuses old new status.BadFile
+Caused command old new status.Stale = Refuses old new status.Stale
 
 -- What a command does.
 pub record Runs (command : Command) (old new : Scene) (ends : Status) : Type 0 where

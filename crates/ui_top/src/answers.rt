@@ -8,8 +8,9 @@ ghost use Rattle.ui_top.specs.Outcome.{words_of};
 
 use itoa::Buffer;
 use std::alloc::{AllocError, Global};
-use ui_consts::{Package, is_ascii_name};
+use ui_exports::Package;
 use ui_store::{Sink, put_all};
+use ui_sums::is_ascii_name;
 
 /// Why the answers were not written to their end.
 #[derive(Clone, Copy, Debug, PartialEq, Eq)]
@@ -49,7 +50,7 @@ fn asked_name(query: &[u8]) -> Option<&[u8]>
 }
 
 // The text of a constant.
-fn show(alloc: Global, path: &[u8], name: &[u8], value: u64) -> Result<Vec<u8>, AllocError>
+fn show(alloc: Global, path: &[u8], name: &[u8], value: u128) -> Result<Vec<u8>, AllocError>
     ensures { IfOk result (λ text. text.items ≡ show path.now name.now value) }
 {
     let mut digits = Buffer::new();

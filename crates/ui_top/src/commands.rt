@@ -1,20 +1,20 @@
 // The commands.
-ghost use Rattle.std.specs.Prelude.{◌≡◌, ◌≤◌, ℕ, List, Option, None, Some, length, drop, MatchOption};
-ghost use Rattle.ui_store.specs.Calls.{Hearings};
+ghost use Rattle.std.specs.Prelude.{◌≡◌, ◌≤◌, ℕ, List, Option, None, Some, true, length, drop, MatchOption};
+ghost use Rattle.ui_base.specs.Paths.{is_path};
 ghost use Rattle.ui_top.specs.Outcome.{Command, Build, command_of, words_of, usage};
 ghost use Rattle.ui_top.specs.Scene.{scene, Runs, RunsUsage, Completes};
 
 use crate::answers::answer_all;
-use crate::build::build;
 use crate::report::{report, report_answers, say};
 use crate::status::Status;
 use std::alloc::Global;
 use std::sync::ledger::Ledger;
 use ui_base::is_path;
+use ui_build::build;
 use ui_steps::Steps;
 use ui_store::{Sink, Source, Store};
 
-// Builds a package, and answers the queries from its linked file.
+// Builds a package and those below it, and answers the queries from its linked file.
 fn run_build<S: Store, O: Sink, E: Sink>(
     alloc: Global,
     path: &str,
@@ -23,9 +23,9 @@ fn run_build<S: Store, O: Sink, E: Sink>(
     out: &mut O,
     err: &mut E,
 ) -> Status
-    requires { length path.now ≤ 255 }
-    ensures { (heard : Hearings) (input : Option (List ℕ)) (input_faults steps : ℕ) → Runs (Build path.now (words_of queries.now))
-        (scene (S.files store.old) (S.asked store.old) heard (S.faults store.old) input input_faults (O.written out.old) (O.faults out.old) (E.written err.old) (E.faults err.old) steps)
+    requires { is_path path.now ≡ true }
+    ensures { (input : Option (List ℕ)) (input_faults steps : ℕ) → Runs (Build path.now (words_of queries.now))
+        (scene (S.files store.old) (S.asked store.old) (S.heard store.old) (S.faults store.old) input input_faults (O.written out.old) (O.faults out.old) (E.written err.old) (E.faults err.old) steps)
         (scene (S.files store.new) (S.asked store.new) (S.heard store.new) (S.faults store.new) input input_faults (O.written out.new) (O.faults out.new) (E.written err.new) (E.faults err.new) steps) result }
 {
     match build(alloc, store, path) {
@@ -38,9 +38,9 @@ fn run_build<S: Store, O: Sink, E: Sink>(
 }
 
 // The path of words that spell a build.
-#[tactic(auto, using(crate::proofs::Paths::short_path), unfolding(crate::specs::Outcome::command_of))]
+#[tactic(auto, unfolding(crate::specs::Outcome::command_of))]
 fn build_path(words: &[String]) -> Option<&str>
-    ensures { MatchOption result (command_of (words_of words.now) ≡ None) (λ path. (2 ≤ length words.now) × (length path.now ≤ 255) × (command_of (words_of words.now) ≡ Some (Build path.now (words_of (drop 2 words.now))))) }
+    ensures { MatchOption result (command_of (words_of words.now) ≡ None) (λ path. (2 ≤ length words.now) × (is_path path.now ≡ true) × (command_of (words_of words.now) ≡ Some (Build path.now (words_of (drop 2 words.now))))) }
 {
     if words.len() < 2 {
         return None;
@@ -59,7 +59,7 @@ const USAGE: &[u8] =
 
 /// Does what the words say, over a store, a source and two sinks: answers go to `out`, and a fault's one line to `err`.
 ///
-/// The one command so far is `build PATH QUERY...`, of packages of constants.
+/// The one command so far is `build PATH QUERY...`, of packages of constants that are sums.
 pub fn run<S: Store, I: Source, O: Sink, E: Sink, L: Ledger>(
     alloc: Global,
     words: &[String],

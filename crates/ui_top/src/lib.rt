@@ -2,18 +2,17 @@
 #![tactic(auto)]
 
 mod answers;
-mod build;
 mod commands;
-mod files;
-mod names;
+mod kinds;
 mod report;
-mod sources;
 mod status;
-mod stop;
 
 pub use commands::run;
 pub use status::Status;
-pub use stop::{Refusal, Stop};
 
+#[cfg(test)]
+mod forged_tests;
+#[cfg(test)]
+mod several_tests;
 #[cfg(test)]
 mod tests;

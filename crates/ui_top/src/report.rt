@@ -5,15 +5,20 @@ ghost use Rattle.ui_store.specs.Causes.{HasCause};
 ghost use Rattle.ui_store.specs.Told.{more};
 ghost use Rattle.ui_store.specs.Sinks.{Partly};
 ghost use Rattle.ui_top.specs.Scene.{Says};
-ghost use Rattle.ui_top.specs.Outcome.{refused_as, refusal_line, frame_end};
+ghost use Rattle.ui_top.specs.Kinds.{kind_text};
+ghost use Rattle.ui_top.specs.Outcome.{refused_as, refusal_line, frame_end, place, name_end, fault_line, stale_line};
 ghost use Rattle.ui_top.specs.Ends.{stop_line, status_of, answers_line, answers_status};
-ghost use Rattle.ui_top.specs.Stops.{refusal_of};
+ghost use Rattle.ui_build.specs.Stops.{refusal_of};
 
 use crate::answers::Unanswered;
+use crate::kinds::kind_text;
 use crate::status::Status;
-use crate::stop::{Refusal, Stop};
+use itoa::Buffer;
+use ui_base::Pos;
+use ui_build::{Refusal, Stop};
 use ui_frame::FrameFault;
 use ui_store::{IoFault, Sink, put_all};
+use ui_types::Fault;
 
 // Three texts, one after another.
 #[tactic(auto, using(std::proofs::lemmas::Grind::common_steps, ui_store::specs::Told::growing, ui_store::specs::Sinks::fronts))]
@@ -98,6 +103,90 @@ fn say_frame<E: Sink>(err: &mut E, name: &[u8], fault: FrameFault)
     }
 }
 
+// A place.
+#[tactic(auto, using(std::proofs::lemmas::Grind::common_steps, ui_store::specs::Told::growing, ui_store::specs::Sinks::fronts))]
+fn put_place<E: Sink>(err: &mut E, pos: &Pos) -> Result<(), IoFault>
+    ensures ok { OnOk result (E.written err.new ≡ more (E.written err.old) (place pos.now)) }
+    ensures err { OnErr result (Partly (E.written err.old) (E.written err.new) (place pos.now)) }
+    ensures cause { HasCause (E.faults err.old) (E.faults err.new) result }
+{
+    let mut line = Buffer::new();
+    let mut column = Buffer::new();
+    put_three(
+        err,
+        pos.file.bytes(),
+        b":",
+        line.format(pos.line).as_bytes(),
+    )?;
+    put_three(err, b":", column.format(pos.col).as_bytes(), b": ")?;
+    Ok(())
+}
+
+// The name that a fault speaks of, to the line's end.
+fn put_name<E: Sink>(err: &mut E, name: &[u8]) -> Result<(), IoFault>
+    ensures ok { OnOk result (E.written err.new ≡ more (E.written err.old) (name_end name.now)) }
+    ensures err { OnErr result (Partly (E.written err.old) (E.written err.new) (name_end name.now)) }
+    ensures cause { HasCause (E.faults err.old) (E.faults err.new) result }
+{
+    match name {
+        [] => {
+            put_all(err, b"\n")?;
+            Ok(())
+        }
+        [_, ..] => {
+            put_three(err, b" ", name, b"\n")?;
+            Ok(())
+        }
+    }
+}
+
+// The fault of a package.
+#[tactic(auto, using(std::proofs::lemmas::Grind::common_steps, ui_store::specs::Told::growing, ui_store::specs::Sinks::fronts))]
+fn put_fault<E: Sink>(err: &mut E, fault: &Fault) -> Result<(), IoFault>
+    ensures ok { OnOk result (E.written err.new ≡ more (E.written err.old) (fault_line fault.now)) }
+    ensures err { OnErr result (Partly (E.written err.old) (E.written err.new) (fault_line fault.now)) }
+    ensures cause { HasCause (E.faults err.old) (E.faults err.new) result }
+{
+    put_place(err, &fault.pos)?;
+    put_all(err, kind_text(fault.kind).as_bytes())?;
+    put_name(err, fault.name.bytes())?;
+    Ok(())
+}
+
+// Says the fault of a package.
+fn say_fault<E: Sink>(err: &mut E, fault: &Fault)
+    ensures { Says (fault_line fault.now) (E.faults err.old) (E.faults err.new) (E.written err.old) (E.written err.new) }
+{
+    let _ = put_fault(err, fault);
+}
+
+// A path, and two fingerprints that are named for it.
+#[tactic(auto, using(std::proofs::lemmas::Grind::common_steps, ui_store::specs::Told::growing, ui_store::specs::Sinks::fronts))]
+fn put_stale<E: Sink>(
+    err: &mut E,
+    path: &[u8],
+    first: [u8; 8],
+    second: [u8; 8],
+) -> Result<(), IoFault>
+    ensures ok { OnOk result (E.written err.new ≡ more (E.written err.old) (stale_line path.now first second)) }
+    ensures err { OnErr result (Partly (E.written err.old) (E.written err.new) (stale_line path.now first second)) }
+    ensures cause { HasCause (E.faults err.old) (E.faults err.new) result }
+{
+    let first = hex_of(first);
+    let second = hex_of(second);
+    put_three(err, b"stale: ", path, b" ")?;
+    put_three(err, &first, b" ", &second)?;
+    put_all(err, b"\n")?;
+    Ok(())
+}
+
+// Says that two fingerprints are named for a path.
+fn say_stale<E: Sink>(err: &mut E, path: &[u8], first: [u8; 8], second: [u8; 8])
+    ensures { Says (stale_line path.now first second) (E.faults err.old) (E.faults err.new) (E.written err.old) (E.written err.new) }
+{
+    let _ = put_stale(err, path, first, second);
+}
+
 // Says a refusal.
 fn report_refusal<E: Sink>(refusal: &Refusal, err: &mut E) -> Status
     ensures status { result ≡ refused_as (refusal_of refusal.now) }
@@ -112,6 +201,10 @@ fn report_refusal<E: Sink>(refusal: &Refusal, err: &mut E) -> Status
             say(err, b"", name.as_bytes(), b":1:1: Form\n");
             Status::Refused
         }
+        Refusal::Faulty(fault) => {
+            say_fault(err, fault);
+            Status::Refused
+        }
         Refusal::TooLong(name) => {
             say(err, b"bad file: ", name.as_bytes(), b": TooLong\n");
             Status::BadFile
@@ -123,6 +216,22 @@ fn report_refusal<E: Sink>(refusal: &Refusal, err: &mut E) -> Status
         Refusal::BadElement(name) => {
             say(err, b"bad file: ", name.as_bytes(), b": Element\n");
             Status::BadFile
+        }
+        Refusal::TooMany => {
+            say(err, b"too many packages", b"", b"\n");
+            Status::Refused
+        }
+        Refusal::Cycle(path) => {
+            say(err, b"import cycle: ", path.as_bytes(), b"\n");
+            Status::Refused
+        }
+        Refusal::Stale {
+            path,
+            first,
+            second,
+        } => {
+            say_stale(err, path.bytes(), *first, *second);
+            Status::Stale
         }
     }
 }

@@ -1,6 +1,6 @@
 ghost use Rattle.std.specs.Prelude.{◌≡◌, ◌<◌};
 
-use super::*;
+use crate::{Status, run};
 use std::alloc::{AllocError, Global};
 use std::marker::Brand;
 use std::process::Abort;
@@ -11,10 +11,10 @@ use ui_store::{AskKind, DirStore, MemSink, MemSource, MemStore, Store};
 
 // How a run ended, and what its sinks took.
 #[derive(Drop)]
-struct Ended {
-    status: Status,
-    out: MemSink,
-    err: MemSink,
+pub struct Ended {
+    pub status: Status,
+    pub out: MemSink,
+    pub err: MemSink,
 }
 
 fn run_counted<S: Store, L: Ledger>(
@@ -42,7 +42,7 @@ fn run_counted<S: Store, L: Ledger>(
 }
 
 // Runs the words over a store, with room for so many bytes of answers.
-fn run_words<S: Store>(
+pub fn run_words<S: Store>(
     alloc: Global,
     words: &[&str],
     store: &mut S,
@@ -162,7 +162,7 @@ fn each_end_of_a_build(rt: HostRuntime) -> Result<(), Fail> {
     )?;
     case(
         &rt,
-        "package a\n\nconst N = 7 + 1\n",
+        "package a\n\nconst N = 7 - 1\n",
         &["build", "a"],
         Status::Refused,
         "",
@@ -194,7 +194,7 @@ fn each_end_of_a_build(rt: HostRuntime) -> Result<(), Fail> {
 #[test]
 fn a_refused_package_writes_nothing(rt: HostRuntime) -> Result<(), Fail> {
     let alloc = rt.alloc();
-    let mut store = store_of(alloc, "package a\n\nconst N = 7 + 1\n", &[], 0)?;
+    let mut store = store_of(alloc, "package a\n\nconst N = 7 - 1\n", &[], 0)?;
     run_words(alloc, &["build", "a"], &mut store, 1000)?;
     assert!(rt; store.file("unit/a.u").is_none() && store.file("lib/a.u").is_none());
     let mut several = store_of(alloc, SEVEN, &[], 0)?;

@@ -1,11 +1,19 @@
-use Rattle.std.proofs.Common.{List, ℕ, refl, subst}
-use Rattle.ui_consts.specs.Constants.{declaration}
-use Rattle.ui_consts.specs.Numbering.{IsPlace, texts}
-use Rattle.ui_consts.proofs.NumberingLemmas.{numbered-is}
+use Rattle.std.proofs.Common.{ℕ, List, refl, subst, lit≤}
+use Rattle.ui_exports.specs.Constants.{declaration}
+use Rattle.ui_consts.specs.Numbering.{GrownFiles}
+use Rattle.ui_consts.proofs.NumberingLemmas.{entry_is, files_later, grown_then}
 use Rattle.ui_consts.proofs.numbered.entry_of.Goals as goal
 
-pub returns : goal.returns
-returns c =
-    numbered-is c.args.name.now (declaration c.args.constant.now) _ c.in_ok-file.file _ _ _ _ _
-    (subst (λ (t : List ℕ). IsPlace t c.in_ok-file.file (texts c.args.strings.now.keys) (texts c.place_of.new.strings.keys)) c.bytes.ensures c.in_ok-file.ensures)
-    c.in_ok-base.ensures.keys c.in_ok-base.ensures.within c.in_ok-base.ensures.stored c.in_ok-name.ensures refl refl refl
+pub returns-clause-texts : goal.returns-clause-texts
+returns-clause-texts c = grown_then 1 2 3 _ _ _ (lit≤ tt) c.in_ok-base.ensures.texts (grown_then 1 1 2 _ _ _ (lit≤ tt) c.in_ok-name.ensures.texts c.in_ok-value.ensures.texts)
+
+pub returns-clause-files : goal.returns-clause-files
+returns-clause-files c =
+    subst (λ (t : List ℕ). GrownFiles t c.value_of.new.strings.keys c.args.bases.now.keys c.base_of.new.bases.keys) c.bytes.ensures
+    (files_later 1 c.bytes.result.now c.place_of.new.strings.keys c.value_of.new.strings.keys _ _ c.in_ok-value.ensures.texts
+    (files_later 1 c.bytes.result.now c.base_of.new.strings.keys c.place_of.new.strings.keys _ _ c.in_ok-name.ensures.texts c.in_ok-base.ensures.files))
+
+pub returns-clause-is : goal.returns-clause-is
+returns-clause-is c =
+    entry_is c.args.name.now (declaration c.args.constant.now) _ c.bytes.result.now c.base_of.new.strings.keys c.place_of.new.strings.keys c.value_of.new.strings.keys c.base_of.new.bases.keys c.bytes.ensures
+    c.in_ok-name.ensures.texts c.in_ok-value.ensures.texts c.in_ok-base.ensures.there c.in_ok-base.ensures.is c.in_ok-name.ensures.place c.in_ok-value.ensures.value refl refl

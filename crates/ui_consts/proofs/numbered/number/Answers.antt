@@ -1,34 +1,14 @@
-use Rattle.std.proofs.Common.{sym, ap, ◌∙◌}
-use Rattle.std.specs.Map.Iter.{deref_pair}
-use Rattle.std.proofs.lemmas.Map.Iter.{iter_end, iter_turn}
-use Rattle.ui_consts.proofs.NumberingLemmas.{loop-begun, loop-end, loop-next, loop-room}
+use Rattle.std.proofs.Common.{map, sym, ap, ◌∙◌}
+use Rattle.ui_exports.specs.Linked.{below}
+use Rattle.ui_consts.proofs.NumbersLemmas.{before_below, numbers_all}
 use Rattle.ui_consts.proofs.numbered.number.Goals as goal
 
-pub loop-text-init : goal.loop-text-init
-loop-text-init c =
-    loop-begun c.args.of.now c.in_ok-path.path c.in_ok-name.name c.bytes.result.now c.bytes-2.result.now c.new-strings.result.keys _ _ c.new-bases.result.keys c.new-entries.result.items c.requires
-    c.new-strings.ensures.empty c.new-bases.ensures.empty c.new-entries.ensures.items (c.bytes.ensures ∙ ap (λ e. e.path) c.of.view_is) (c.bytes-2.ensures ∙ ap (λ e. e.name) c.of.view_is) c.in_ok-path.ensures c.in_ok-name.ensures
-
-pub entry_of-requires-clause-strings : goal.entry_of-requires-clause-strings
-entry_of-requires-clause-strings c =
-    (loop-room c.args.of.now c.in_ok-path.path c.in_ok-name.name c.loop-text.strings.keys c.loop-text.bases.keys _ c.of.inside.constants.entries c.loop-text.yielded c.requires (ap (λ e. e.decls) (sym c.of.view_is)) c.into_iter-text-iterator.ensures.into_iter_gives.5
-    (iter_turn deref_pair c.of.inside.constants.entries c.loop-text.yielded c.into_iter-text-iterator.result c.loop-text.text-iterator c.next.new.self c.next.result c.into_iter-text-iterator.ensures.into_iter_gives.0 c.loop-text.yielded_by (c.in-Some.text, c.in-Some.constant) c.in-Some.is c.next.ensures.steps).0
-    c.loop-text.invariant).0
-
-pub entry_of-requires-clause-bases : goal.entry_of-requires-clause-bases
-entry_of-requires-clause-bases c =
-    (loop-room c.args.of.now c.in_ok-path.path c.in_ok-name.name c.loop-text.strings.keys c.loop-text.bases.keys _ c.of.inside.constants.entries c.loop-text.yielded c.requires (ap (λ e. e.decls) (sym c.of.view_is)) c.into_iter-text-iterator.ensures.into_iter_gives.5
-    (iter_turn deref_pair c.of.inside.constants.entries c.loop-text.yielded c.into_iter-text-iterator.result c.loop-text.text-iterator c.next.new.self c.next.result c.into_iter-text-iterator.ensures.into_iter_gives.0 c.loop-text.yielded_by (c.in-Some.text, c.in-Some.constant) c.in-Some.is c.next.ensures.steps).0
-    c.loop-text.invariant).1
-
-pub loop-text-preserved : goal.loop-text-preserved
-loop-text-preserved c =
-    loop-next c.args.of.now c.in_ok-path.path c.in_ok-name.name _ _ c.loop-text.bases.keys _ c.loop-text.entries.items _ c.in_ok-entry.entry c.of.inside.constants.entries c.loop-text.yielded (c.in-Some.text, c.in-Some.constant) c.deref.result.now c.requires (ap (λ e. e.decls) (sym c.of.view_is)) c.into_iter-text-iterator.ensures.into_iter_gives.5
-    (iter_turn deref_pair c.of.inside.constants.entries c.loop-text.yielded c.into_iter-text-iterator.result c.loop-text.text-iterator c.next.new.self c.next.result c.into_iter-text-iterator.ensures.into_iter_gives.0 c.loop-text.yielded_by (c.in-Some.text, c.in-Some.constant) c.in-Some.is c.next.ensures.steps).1
-    c.deref.ensures.value c.in_ok-push.ensures.items c.in_ok-entry.ensures c.loop-text.invariant
+pub number_below-requires-clause-room : goal.number_below-requires-clause-room
+number_below-requires-clause-room c =
+    before_below c.args.linked.now c.linked.inside.package _ _ c.new-strings.result.keys _ _ c.number_constants.new.strings.keys c.requires (ap (λ l. l.export) c.linked.view_is) c.new-strings.ensures.empty c.in_ok-path.ensures.texts c.in_ok-name.ensures.texts c.in_ok-bases.ensures.numbers
 
 pub returns : goal.returns
 returns c =
-    loop-end _ c.args.of.now c.loop-text.strings.keys c.loop-text.bases.keys c.of.inside.constants.entries c.loop-text.yielded c.requires (ap (λ e. e.decls) (sym c.of.view_is)) c.into_iter-text-iterator.ensures.into_iter_gives.5
-    (iter_end deref_pair c.of.inside.constants.entries c.loop-text.yielded c.into_iter-text-iterator.result c.loop-text.text-iterator c.next.new.self c.next.result c.into_iter-text-iterator.ensures.into_iter_gives.0 c.loop-text.yielded_by c.in-None.is c.next.ensures.steps).0
-    c.in_ok-strings.ensures c.in_ok-bases.ensures c.loop-text.invariant
+    numbers_all _ c.args.linked.now c.linked.inside.package (map below c.deref.result.now) c.path.result.now c.name.result.now c.in_ok-below.below.items c.new-strings.result.keys _ _ c.number_constants.new.strings.keys _ c.requires (ap (λ l. l.export) c.linked.view_is)
+    (ap (map below) c.deref.ensures.value ∙ ap (λ l. l.below) c.linked.view_is) c.path.ensures c.name.ensures (sym c.new.ensures) c.new-strings.ensures.empty c.in_ok-strings.ensures c.in_ok-path.ensures.texts c.in_ok-path.ensures.place c.in_ok-name.ensures.texts c.in_ok-name.ensures.place
+    c.in_ok-bases.ensures.numbers c.in_ok-bases.ensures.listed c.in_ok-below.ensures

@@ -1,5 +1,8 @@
-use Rattle.ui_consts.proofs.NumberingLemmas.{place-is}
+use Rattle.ui_consts.proofs.NumberingLemmas.{grown_is, place_is}
 use Rattle.ui_consts.proofs.numbered.place_of.Goals as goal
 
-pub returns : goal.returns
-returns c = place-is c.args.strings.now.keys _ c.args.text c.in_ok-place.place c.in_ok-place.ensures.keys c.in_ok-place.ensures.within c.in_ok-place.ensures.stored c.in_ok-place.ensures.unique
+pub returns-clause-place : goal.returns-clause-place
+returns-clause-place c = place_is c.args.strings.now.keys c.insert_full.new.self.keys c.args.text.now c.in_ok-text.text c.in_ok-place.place c.in_ok-text.ensures c.in_ok-place.ensures.within c.in_ok-place.ensures.stored
+
+pub returns-clause-texts : goal.returns-clause-texts
+returns-clause-texts c = grown_is c.args.strings.now.keys c.insert_full.new.self.keys c.in_ok-text.text c.args.text.now c.in_ok-text.ensures c.requires.short c.in_ok-place.ensures.keys c.in_ok-place.ensures.unique

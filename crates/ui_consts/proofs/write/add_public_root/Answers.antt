@@ -1,18 +1,12 @@
-use Rattle.std.proofs.Common.{◌≡◌, [], ◌∷◌, List, ℕ, length, ap, ◌∙◌, arith}
-use Rattle.std.specs.List.{range_with_len}
-use Rattle.ui_frame.specs.declared.section.Section.TheVariants.{Meta}
-use Rattle.ui_consts.specs.Elements.{numbers, public_root}
-use Rattle.ui_consts.proofs.WriteLemmas.{Adds-same, length-public_root}
+use Rattle.std.proofs.Common.{◌∙◌, arith}
+use Rattle.ui_consts.proofs.FileLemmas.{public_few, public_ready, public_same}
 use Rattle.ui_consts.proofs.write.add_public_root.Goals as goal
 
-pub add_numbers-requires : goal.add_numbers-requires
-add_numbers-requires c =
-    let same : c.deref.result.now ≡ public_root (range_with_len 0 c.args.count) = c.deref.ensures.value ∙ c.in_ok-numbers.ensures in
-    let count = ap length same ∙ length-public_root c.args.count in
-    record { ten = c.requires.room.ten; few = c.requires.room.few; light = omega (arith, count, c.requires.few, c.requires.room.light) }
+pub add_one-requires-clause-fits : goal.add_one-requires-clause-fits
+add_one-requires-clause-fits c = public_ready c.args.x.now c.requires.numbers.0 c.requires.numbers.1 c.new-objects.result c.len.result (let k = c.args.x.now.entries.ok in omega (arith, c.len.ensures)) (c.new-objects.ensures ∙ c.in_ok-object_uses.ensures)
+
+pub add_one-requires-clause-few : goal.add_one-requires-clause-few
+add_one-requires-clause-few c = public_few c.args.x.now c.requires.numbers.0 c.requires.numbers.1 c.new-objects.result c.len.result (let k = c.args.x.now.entries.ok in omega (arith, c.len.ensures)) (c.new-objects.ensures ∙ c.in_ok-object_uses.ensures)
 
 pub returns : goal.returns
-returns c =
-    let same : c.deref.result.now ≡ public_root (range_with_len 0 c.args.count) = c.deref.ensures.value ∙ c.in_ok-numbers.ensures in
-    let count = ap length same ∙ length-public_root c.args.count in
-    Adds-same Meta _ _ _ _ _ _ (ap (λ (ns : List ℕ). numbers ns ∷ []) same) (omega (arith, count, c.requires.few)) c.in_ok-add_numbers.ensures
+returns c = public_same c.args.x.now c.requires.numbers.0 c.requires.numbers.1 c.new-objects.result c.len.result c.args.out.now c.add_one.new.out (let k = c.args.x.now.entries.ok in omega (arith, c.len.ensures)) (c.new-objects.ensures ∙ c.in_ok-object_uses.ensures) c.in_ok-add_one.ensures

@@ -1,0 +1,6 @@
+mod HoldingLemmas
+mod ClaimLemmas
+mod HeldLaws
+mod Turns
+mod JoinLaws
+mod MarkLaws

@@ -1,0 +1,3 @@
+pub mod Claims
+pub mod Join
+pub mod Holding

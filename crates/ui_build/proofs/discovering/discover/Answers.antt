@@ -1,0 +1,94 @@
+use Rattle.std.proofs.Common.{◌≡◌, ◌∙◌, ◌-◌, ◌+◌, ap, sym, subst, refl, suc, [], ℕ, arith, option_map, string_bytes, Some}
+use Rattle.std.proofs.lemmas.Result.{err_from_is_err_and}
+use Rattle.ui_store.specs.Told.{more_none}
+use Rattle.ui_order.specs.Found.{Found, IsFound, begun, least_unread}
+use Rattle.ui_build.specs.Build.{discover, package_limit}
+use Rattle.ui_build.specs.Heard.{Anything}
+use Rattle.ui_build.specs.Stops.{state}
+use Rattle.ui_build.specs.declared.stop.Refusal.TheVariants as told
+use Rattle.ui_build.specs.declared.stop.Stop.TheVariants as stop
+use Rattle.ui_build.proofs.Hearing.{heard_none, heard_stop, heard_then, heard_then_none, heard_then_stop, heard_settled, heard_value}
+use Rattle.ui_build.proofs.Steps.{told_none}
+use Rattle.ui_build.proofs.Finding.{finds_first, finds_next, finds_stop, finds_none, finds_all, finds_over, finds_turns, left_at, left_next}
+use Rattle.ui_build.proofs.discovering.discover.Goals as goal
+
+pub returns-in_err-discovery-clause-does : goal.returns-in_err-discovery-clause-does
+returns-in_err-discovery-clause-does g c =
+    let p = err_from_is_err_and c.from_residual.result c.from_residual.ensures.1 in
+    rw (p.1, p.2) (told_none (λ (d : Found). d) (λ told. discover (suc package_limit) told (begun c.args.root.now)) _ _)
+
+pub loop-turn-init : goal.loop-turn-init
+loop-turn-init g c =
+    let P : Found → Type 0 = IsFound c.args.root.now in
+    record {
+      rest = finds_first c.args.root.now (state (g.S.Store.files c.args.store.now) (g.S.Store.asked c.args.store.now)) c.in_ok-discovery.discovery c.in_ok-discovery.ensures;
+      same = refl;
+      count = omega arith;
+      heard = record { heard = []; told = sym (more_none (g.S.Store.heard c.args.store.now)); ends = tt };
+      found = subst P (sym c.in_ok-discovery.ensures) (c.discovery_keeps.ensures.begins c.args.root.now);
+    }
+
+pub loop-turn-preserved : goal.loop-turn-preserved
+loop-turn-preserved g c =
+    let i = c.loop-turn._turn in
+    let initial = state (g.S.Store.files c.args.store.now) (g.S.Store.asked c.args.store.now) in
+    let now = state (g.S.Store.files c.loop-turn.store) (g.S.Store.asked c.loop-turn.store) in
+    let mid = state (g.S.Store.files c.discover_one.new.store) (g.S.Store.asked c.discover_one.new.store) in
+    let unread : least_unread c.loop-turn.discovery ≡ Some (string_bytes c.in-Some.path) = sym (sym (ap (option_map string_bytes) c.in-Some.is) ∙ c.in_ok-next_path.ensures) in
+    record {
+      rest = finds_turns c.args.root.now initial (1024 - i) (1025 - (i + 1)) c.in_ok-more-in-Some.more mid (left_next i)
+          (finds_next (λ (d : Found). d) c.args.root.now initial (1024 - i) c.loop-turn.discovery (string_bytes c.in-Some.path) (g.S.Store.files c.loop-turn.store) (g.S.Store.files c.discover_one.new.store) (g.S.Store.asked c.loop-turn.store) (g.S.Store.asked c.discover_one.new.store) c.in_ok-more-in-Some.more
+          unread c.in_ok-more-in-Some.ensures.files (finds_turns c.args.root.now initial (1025 - i) (suc (1024 - i)) c.loop-turn.discovery now (left_at i (omega (arith, c.loop-turn-test.true))) c.loop-turn.invariant.rest) c.in_ok-more-in-Some.ensures.does);
+      same = c.in_ok-more-in-Some.ensures.files ∙ c.loop-turn.invariant.same;
+      count = omega (arith, c.in_ok-more-in-Some.ensures.cause.later);
+      heard = heard_then (λ (u : Unit {0}) _. Unit {0}) _ (λ (u : Unit {0}) _. Unit {0}) tt c.in_ok-more-in-Some.more tt _ _ _ (λ _ _ _ _. tt) c.loop-turn.invariant.heard c.in_ok-more-in-Some.ensures.heard;
+      found = c.in_ok-more-in-Some.ensures.found c.args.root.now c.loop-turn.invariant.found;
+    }
+
+pub returns-in_err-next_path-clause-does : goal.returns-in_err-next_path-clause-does
+returns-in_err-next_path-clause-does g c =
+    let p = err_from_is_err_and c.from_residual-in_err-next_path.result c.from_residual-in_err-next_path.ensures.1 in
+    rw (p.1, p.2) (finds_none c.args.root.now (state (g.S.Store.files c.args.store.now) (g.S.Store.asked c.args.store.now)) (1025 - c.loop-turn._turn) c.loop-turn.discovery _ _ c.loop-turn.invariant.rest)
+
+pub returns-in-None-clause-does : goal.returns-in-None-clause-does
+returns-in-None-clause-does g c =
+    let i = c.loop-turn._turn in
+    let initial = state (g.S.Store.files c.args.store.now) (g.S.Store.asked c.args.store.now) in
+    let now = state (g.S.Store.files c.loop-turn.store) (g.S.Store.asked c.loop-turn.store) in
+    finds_all c.args.root.now initial (1024 - i) c.loop-turn.discovery _ _ (sym (sym (ap (option_map string_bytes) c.in-None.is) ∙ c.in_ok-next_path.ensures))
+    (finds_turns c.args.root.now initial (1025 - i) (suc (1024 - i)) c.loop-turn.discovery now (left_at i (omega (arith, c.loop-turn-test.true))) c.loop-turn.invariant.rest)
+
+pub returns-in_err-more-in-Some-clause-does : goal.returns-in_err-more-in-Some-clause-does
+returns-in_err-more-in-Some-clause-does g c =
+    let p = err_from_is_err_and c.from_residual-in_err-more-in-Some.result c.from_residual-in_err-more-in-Some.ensures.1 in
+    let i = c.loop-turn._turn in
+    let initial = state (g.S.Store.files c.args.store.now) (g.S.Store.asked c.args.store.now) in
+    let now = state (g.S.Store.files c.loop-turn.store) (g.S.Store.asked c.loop-turn.store) in
+    rw (p.1, p.2)
+    (finds_stop (λ (d : Found). d) c.args.root.now initial (1024 - i) c.loop-turn.discovery (string_bytes c.in-Some.path) (g.S.Store.files c.loop-turn.store) (g.S.Store.asked c.loop-turn.store) (state (g.S.Store.files c.discover_one.new.store) (g.S.Store.asked c.discover_one.new.store)) c.in_err-more-in-Some.field-0.0
+    (sym (sym (ap (option_map string_bytes) c.in-Some.is) ∙ c.in_ok-next_path.ensures)) (finds_turns c.args.root.now initial (1025 - i) (suc (1024 - i)) c.loop-turn.discovery now (left_at i (omega (arith, c.loop-turn-test.true))) c.loop-turn.invariant.rest) c.in_err-more-in-Some.ensures.does)
+
+pub returns-clause-does : goal.returns-clause-does
+returns-clause-does g c =
+    finds_over c.args.root.now (state (g.S.Store.files c.args.store.now) (g.S.Store.asked c.args.store.now)) (1025 - c.loop-turn._turn) c.loop-turn.discovery _ _ (omega (arith, c.loop-turn-test.false)) c.loop-turn.invariant.rest
+
+pub returns-in_err-discovery-clause-heard : goal.returns-in_err-discovery-clause-heard
+returns-in_err-discovery-clause-heard g c =
+    let p = err_from_is_err_and c.from_residual.result c.from_residual.ensures.1 in
+    rw (p.1, p.2) (heard_none (λ (d : Found). Anything d) stop.NoMemory _ _ refl tt)
+
+pub returns-in_err-next_path-clause-heard : goal.returns-in_err-next_path-clause-heard
+returns-in_err-next_path-clause-heard g c =
+    let p = err_from_is_err_and c.from_residual-in_err-next_path.result c.from_residual-in_err-next_path.ensures.1 in
+    rw (p.1, p.2) (heard_then_none (λ (u : Unit {0}) _. Unit {0}) (λ (d : Found). Anything d) tt stop.NoMemory _ _ _ refl tt c.loop-turn.invariant.heard)
+
+pub returns-in-None-clause-heard : goal.returns-in-None-clause-heard
+returns-in-None-clause-heard g c = heard_value (λ (u : Unit {0}) _. Unit {0}) (λ (d : Found). Anything d) tt c.loop-turn.discovery _ _ _ refl (λ _ _. tt) c.loop-turn.invariant.heard
+
+pub returns-in_err-more-in-Some-clause-heard : goal.returns-in_err-more-in-Some-clause-heard
+returns-in_err-more-in-Some-clause-heard g c =
+    let p = err_from_is_err_and c.from_residual-in_err-more-in-Some.result c.from_residual-in_err-more-in-Some.ensures.1 in
+    rw (p.1, p.2) (heard_then_stop (λ (u : Unit {0}) _. Unit {0}) _ (λ (d : Found). Anything d) tt c.in_err-more-in-Some.field-0.0 _ _ _ c.loop-turn.invariant.heard c.in_err-more-in-Some.ensures.heard)
+
+pub returns-clause-heard : goal.returns-clause-heard
+returns-clause-heard g c = heard_settled (λ (u : Unit {0}) _. Unit {0}) (λ (d : Found). Anything d) tt (stop.Refused told.TooMany) _ _ (λ _ _. tt) c.loop-turn.invariant.heard

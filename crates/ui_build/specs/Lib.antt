@@ -1,0 +1,9 @@
+pub mod Plan
+pub mod Package
+pub mod Build
+pub mod Loading
+pub mod Sources
+pub mod Stops
+pub mod Views
+pub mod Heard
+pub mod Built

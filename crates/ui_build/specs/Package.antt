@@ -1,0 +1,97 @@
+-- A package: its folder and files, its sources, and their form.
+use Rattle.std.specs.Prelude.{ℕ, ◌^◌, Bool, ◌&&◌, not, nat_eq, nat_le, List, [], ◌∷◌, ◌++◌, length, filter, Option, Some, None, Result, Ok, Err, codes, if◌then◌else◌}
+use Rattle.std.specs.List.{ends_with}
+use Rattle.ui_store.specs.Files.{Files, listing, reading}
+use Rattle.ui_store.specs.declared.fault.StoreFault.{StoreFault}
+use Rattle.ui_store.specs.declared.fault.StoreFault.TheVariants as fault
+use Rattle.ui_store.specs.declared.store.AskKind.TheVariants as ask
+use Rattle.ui_sums.specs.Form.{Form as SourceForm, form_of, imported}
+use Rattle.ui_build.specs.Plan.{Text, Refusal, NoFile, Form, Plan, done, refused, settled, ◌>>=◌, asking}
+
+-- where a package's sources, its unit file and its linked file stand
+abbrev pub folder : Text → Text
+folder path = codes "src/" ++ path
+
+abbrev pub unit_file : Text → Text
+unit_file path = codes "unit/" ++ path ++ codes ".u"
+
+abbrev pub linked_file : Text → Text
+linked_file path = codes "lib/" ++ path ++ codes ".u"
+
+abbrev pub file_in : Text → Text → Text
+file_in folder name = folder ++ (codes "/" ++ name)
+
+-- the most bytes of a source that is read, and of a unit or linked file
+abbrev pub source_limit : ℕ
+source_limit = 1048576
+
+abbrev pub file_limit : ℕ
+file_limit = 2 ^ 30
+
+-- the names of a folder that are sources: those in `.go`, but for tests
+abbrev pub is_source : Text → Bool
+is_source name = ends_with nat_eq name (codes ".go") && not (ends_with nat_eq name (codes "_test.go"))
+
+-- a source: its name in the store, and its bytes, or nothing where there are more than the limit
+abbrev pub Source : Type 0
+Source = Text × Option Text
+
+-- a call that gave nothing; a device's fault is no answer of told files
+abbrev pub listed_as : Text → Result (List Text) StoreFault → Result (List Text) Refusal
+listed_as name (Ok names) = Ok names
+listed_as name (Err e) = Err (NoFile name)
+
+abbrev pub read_as : Text → Result Text StoreFault → Result (Option Text) Refusal
+read_as name (Ok bytes) = Ok (Some bytes)
+read_as name (Err fault.TooLong) = Ok None
+read_as name (Err fault.Missing) = Err (NoFile name)
+read_as name (Err fault.Failed) = Err (NoFile name)
+read_as name (Err fault.NoMemory) = Err (NoFile name)
+
+abbrev pub list_folder : Files → Text → Plan (List Text)
+list_folder files name = asking (ask.List, name) (listed_as name (listing files name))
+
+-- the bytes of a file, or nothing where there are more than the limit
+abbrev pub read_file : Files → Text → ℕ → Plan (Option Text)
+read_file files name limit = asking (ask.Read, name) (read_as name (reading files name limit))
+
+abbrev pub read_source : Files → Text → Plan Source
+read_source files name = read_file files name source_limit >>= λ bytes. done (name, bytes)
+
+-- the files of a folder by their names, each behind those read so far
+unfoldable pub read_sources : Files → Text → List Source → List Text → Plan (List Source)
+read_sources files folder sources [] = done sources
+read_sources files folder sources (name ∷ names) = read_source files (file_in folder name) >>= λ source. read_sources files folder (sources ++ source ∷ []) names
+
+-- a folder without sources is no package
+abbrev pub some_source : Text → List Source → Plan (List Source)
+some_source folder [] = refused (NoFile folder)
+some_source folder (source ∷ sources) = done (source ∷ sources)
+
+-- the sources of a package, ascending by name
+abbrev pub find : Files → Text → Plan (List Source)
+find files folder = list_folder files folder >>= λ names. read_sources files folder [] (filter is_source names) >>= λ sources. some_source folder sources
+
+-- what one text spells, or the fault at the front of its file
+abbrev pub or_form : Text → Option SourceForm → Result SourceForm Refusal
+or_form name (Some form) = Ok form
+or_form name None = Err (Form name)
+
+-- What a package's sources spell. A package of one file that isn't too long is taken.
+unfoldable pub form_or : Text → List Source → Result SourceForm Refusal
+form_or path [] = Err (NoFile (folder path))
+form_or path ((name, Some bytes) ∷ []) = if nat_le (length path) 255 then or_form name (form_of path name bytes) else Err (Form name)
+form_or path ((name, None) ∷ []) = Err (Form name)
+form_or path ((name, bytes) ∷ other ∷ others) = Err (Form name)
+
+-- the paths that a form imports, ascending; none where there is no form
+abbrev pub imports_of_form : Result SourceForm Refusal → List Text
+imports_of_form (Ok form) = imported form
+imports_of_form (Err refusal) = []
+
+abbrev pub imports_in : Text → List Source → List Text
+imports_in path sources = imports_of_form (form_or path sources)
+
+-- the form of a package's sources
+abbrev pub read_form : Files → Text → Plan SourceForm
+read_form files path = find files (folder path) >>= λ sources. settled (form_or path sources)

@@ -1,0 +1,18 @@
+//! Building packages over a store: they are found, put in order, compiled each from its own sources and the linked files
+//! of its imports, and the root's linked file is read.
+#![tactic(auto)]
+
+mod building;
+mod compiling;
+mod discovering;
+mod files;
+mod judging;
+mod loading;
+mod names;
+mod sources;
+mod stop;
+
+pub use building::build;
+pub use compiling::compile;
+pub use loading::{Loaded, load};
+pub use stop::{Refusal, Stop};

@@ -1,0 +1,86 @@
+// The sources of a package: found in its folder, read, and judged.
+ghost use Rattle.std.specs.Prelude.{◌≡◌, ◌≤◌, [], IfOk, filter, map, string_bytes};
+ghost use Rattle.ui_build.specs.Package.{find, read_source, read_sources, is_source, folder, file_in};
+ghost use Rattle.ui_build.specs.Heard.{FindsSources, HasRead, Hears, ReadsSources};
+ghost use Rattle.ui_build.specs.Stops.{state, DoesTold, HasCause};
+ghost use Rattle.ui_build.specs.Sources.{source, sources_of};
+
+use crate::files::{SOURCE_LIMIT, list_folder, read_file};
+use crate::names::{self, copy, file_in};
+use crate::stop::{Refusal, Stop};
+use std::alloc::Global;
+use ui_store::Store;
+
+/// A source: its name in the store, and its bytes, or nothing where there are more than the limit.
+#[derive(Drop)]
+pub struct Source {
+    pub name: String,
+    pub bytes: Option<Vec<u8>>,
+}
+
+// Whether a name in a folder is that of a source: it ends in `.go`, and not in `_test.go`.
+fn is_source(name: &str) -> bool
+    ensures { result ≡ is_source name.now }
+{
+    let name = name.as_bytes();
+    name.ends_with(b".go") && !name.ends_with(b"_test.go")
+}
+
+// Reads one source.
+fn read_source<S: Store>(
+    alloc: Global,
+    store: &mut S,
+    folder: &str,
+    part: &str,
+) -> Result<Source, Stop>
+    ensures does { DoesTold source (λ told. read_source told (file_in folder.now part.now)) (state (S.files store.old) (S.asked store.old)) (state (S.files store.new) (S.asked store.new)) result }
+    ensures files { S.files store.new ≡ S.files store.old }
+    ensures heard { Hears (λ s. HasRead (source s)) (S.heard store.old) (S.heard store.new) result }
+    ensures name { IfOk result (λ s. string_bytes s.name ≡ file_in folder.now part.now) }
+    ensures cause { HasCause (S.faults store.old) (S.faults store.new) (S.asked store.new) result }
+{
+    let name = file_in(alloc, folder, part)?;
+    let asked = copy(alloc, &name)?;
+    let bytes = read_file(alloc, store, asked, SOURCE_LIMIT)?;
+    Ok(Source { name, bytes })
+}
+
+// Reads the sources among the names of a folder, in their order.
+fn read_sources<S: Store>(
+    alloc: Global,
+    store: &mut S,
+    folder: &str,
+    names: &[String],
+) -> Result<Vec<Source>, Stop>
+    ensures does { DoesTold sources_of (λ told. read_sources told folder.now [] (filter is_source (map string_bytes names.now))) (state (S.files store.old) (S.asked store.old)) (state (S.files store.new) (S.asked store.new)) result }
+    ensures files { S.files store.new ≡ S.files store.old }
+    ensures heard { Hears (λ v. ReadsSources folder.now (filter is_source (map string_bytes names.now)) (sources_of v)) (S.heard store.old) (S.heard store.new) result }
+    ensures cause { HasCause (S.faults store.old) (S.faults store.new) (S.asked store.new) result }
+{
+    let mut sources = Vec::new(alloc);
+    for name in names {
+        if !is_source(name.as_str()) {
+            continue;
+        }
+        let source = read_source(alloc, store, folder, name.as_str())?;
+        sources.push(source)?;
+    }
+    Ok(sources)
+}
+
+/// Finds and reads the sources of a package, ascending by name.
+pub fn find<S: Store>(alloc: Global, store: &mut S, path: &str) -> Result<Vec<Source>, Stop>
+    ensures does { DoesTold sources_of (λ told. find told (folder path.now)) (state (S.files store.old) (S.asked store.old)) (state (S.files store.new) (S.asked store.new)) result }
+    ensures files { S.files store.new ≡ S.files store.old }
+    ensures heard { Hears (λ v. FindsSources (folder path.now) (sources_of v)) (S.heard store.old) (S.heard store.new) result }
+    ensures cause { HasCause (S.faults store.old) (S.faults store.new) (S.asked store.new) result }
+{
+    let folder = names::folder(alloc, path)?;
+    let asked = copy(alloc, &folder)?;
+    let names = list_folder(alloc, store, asked)?;
+    let sources = read_sources(alloc, store, folder.as_str(), &names)?;
+    if sources.is_empty() {
+        return Err(Stop::Refused(Refusal::NoFile(folder)));
+    }
+    Ok(sources)
+}

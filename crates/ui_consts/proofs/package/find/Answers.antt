@@ -1,5 +1,0 @@
-use Rattle.ui_consts.proofs.ConstantLemmas.{find_declaration}
-use Rattle.ui_consts.proofs.package.find.Goals as goal
-
-pub returns : goal.returns
-returns c = find_declaration _ _ c.get.result c.get.ensures.value

@@ -1,0 +1,4 @@
+pub mod Values
+pub mod Objects
+pub mod Roots
+pub mod ObjectLaws

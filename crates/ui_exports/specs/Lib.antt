@@ -1,0 +1,5 @@
+pub mod Export
+pub mod Constants
+pub mod Adding
+pub mod Linked
+pub mod Entries

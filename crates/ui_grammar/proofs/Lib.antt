@@ -1,0 +1,3 @@
+mod Inverse
+mod Cases
+mod MoreCases

@@ -1,0 +1,13 @@
+pub mod Found
+pub mod Steps
+pub mod StepLaws
+pub mod OrderFrom
+pub mod Order
+pub mod Tables
+pub mod Shown
+pub mod Laws
+pub mod FoundLaws
+pub mod OrderLaws
+pub mod Numbers
+pub mod Search
+pub mod Numbered

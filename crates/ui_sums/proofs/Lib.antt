@@ -1,0 +1,10 @@
+pub mod LocalLemmas
+pub mod WordLemmas
+pub mod TermLemmas
+pub mod BodyLemmas
+pub mod NumberLemmas
+pub mod NameLemmas
+pub mod PathLemmas
+pub mod FormLemmas
+pub mod ValueLemmas
+pub mod VerdictLemmas

@@ -1,0 +1,10 @@
+pub mod Words
+pub mod Lines
+pub mod Form
+pub mod Verdict
+pub mod Size
+pub mod Kept
+pub mod Joined
+pub mod Numbers
+pub mod Naming
+pub mod Choosing

@@ -1,0 +1,4 @@
+pub mod Views
+pub mod StmtViews
+pub mod Apart
+pub mod Pairs

@@ -1,0 +1,17 @@
+//! Syntax trees: what the tokens of a Go source file spell.
+#![tactic(auto)]
+
+mod decl;
+mod expr;
+mod part;
+mod same;
+mod stmt;
+
+pub use decl::{DeclTree, FileTree, ImportSpec, ImportTree, Receiver, TypeSpec};
+pub use expr::{ExprTree, TypeExpr};
+pub use part::{Group, LiteralKind, Placed, PrefixOp, Sig, Specs};
+pub use sqlite_items::{Boxed, Items};
+pub use stmt::{Block, Clause, CommonTree, RangePlaces, StmtTree, ValueSpec};
+
+#[cfg(test)]
+mod tests;
