@@ -1,3 +1,4 @@
 mod Inverse
 mod Cases
 mod MoreCases
+mod ResultCases
