@@ -1,5 +1,5 @@
 -- Refusals of which what was heard says nothing: too many packages, and a cycle of imports.
-use Rattle.std.proofs.Common.{◌≡◌, sym, subst, refl, Bool, true, false, cond, List, Result, Ok, Err}
+use Rattle.std.proofs.Common.{◌≡◌, subst, Bool, true, false, cond, List, Result, Ok, Err}
 use Rattle.std.specs.Prelude.{nat_lt}
 use Rattle.ui_store.specs.Calls.{Hearing}
 use Rattle.ui_order.specs.Found.{Graph, Found, found_count}

@@ -1,6 +1,6 @@
 -- A package and the packages below it are built.
 use Rattle.std.proofs.Common.{◌≡◌, ◌∙◌, ap, sym, subst, refl, ℕ, suc, ◌≤◌, length, List, [], ◌∷◌, map, Option, Some, None, IfSome, Result, Ok, Err, true}
-use Rattle.std.specs.Prelude.{String, string_bytes, Vec, bytes_eq}
+use Rattle.std.specs.Prelude.{String, string_bytes, Vec}
 use Rattle.std.specs.declared.alloc.Global.{Global}
 use Rattle.std.specs.FinMap.{empty, get, contains_key}
 use Rattle.ui_store.specs.Files.{Files}
@@ -8,16 +8,15 @@ use Rattle.ui_store.specs.Calls.{Calls}
 use Rattle.ui_store.specs.declared.store.AskKind.TheVariants as ask
 use Rattle.ui_exports.specs.Export.{Export}
 use Rattle.ui_exports.specs.Linked.{Linked}
-use Rattle.ui_order.specs.Steps.{has}
 use Rattle.ui_order.specs.Tables.{texts}
-use Rattle.ui_build.specs.Plan.{Text, Refusal, Entry, Plan, asking, ◌>>=◌}
+use Rattle.ui_build.specs.Plan.{Text, Refusal, Plan, asking, ◌>>=◌}
 use Rattle.ui_build.specs.Package.{linked_file}
 use Rattle.ui_build.specs.Build.{Packages, package_limit, compile_all, export_or, build_order, build}
 use Rattle.ui_build.specs.Loading as plans
 use Rattle.ui_build.specs.Loading.{linked_as, print_of, load}
 use Rattle.ui_build.specs.Views.{loaded_of}
-use Rattle.ui_build.specs.Stops.{State, state, Ends, Stops, DoesStop, Does, DoesTold, Carries, refusal_of}
-use Rattle.ui_build.specs.Built.{IsBuilt, IsInOrder, Stands, Compiled}
+use Rattle.ui_build.specs.Stops.{State, state, DoesStop, Does, DoesTold, Carries, refusal_of}
+use Rattle.ui_build.specs.Built.{IsInOrder, Stands, Compiled}
 use Rattle.ui_build.specs.declared.loading.Loaded.{Loaded}
 use Rattle.ui_build.specs.declared.stop.Stop.{Stop}
 use Rattle.ui_build.specs.declared.stop.Stop.TheVariants as stop

@@ -1,23 +1,22 @@
 -- A package is compiled: the outcome is that by the sources alone, and what it stands for is written.
-use Rattle.std.proofs.Common.{◌≡◌, ◌∙◌, ap, sym, subst, refl, length, ◌≤◌, Bool, true, false, List, [], ◌∷◌, map, flat_map, Option, Some, None, IfSome, Result, Ok, Err}
-use Rattle.std.specs.Prelude.{is_some, ◌||◌}
+use Rattle.std.proofs.Common.{◌≡◌, ◌∙◌, ap, sym, subst, refl, length, ◌≤◌, Bool, true, false, List, [], ◌∷◌, map, Option, Some, None, IfSome, Result, Ok, Err}
+use Rattle.std.specs.Prelude.{◌||◌}
 use Rattle.std.specs.List.{AllByRecursion, list_any}
 use Rattle.std.specs.Cmp.{eq_by_cmp_equiv}
 use Rattle.std.specs.Cmp.Lexicographic.{nat_list_cmp_total}
-use Rattle.std.specs.FinMap.{FinMap, entries, keys, get, insert, contains_key, contains_key-keys}
+use Rattle.std.specs.FinMap.{entries, insert, contains_key, contains_key-keys}
 use Rattle.ui_store.specs.Files.{Files, put}
 use Rattle.ui_frame.specs.Laws.{IsBytes}
-use Rattle.ui_exports.specs.Export.{Export}
-use Rattle.ui_exports.specs.Linked.{Linked, Below}
+use Rattle.ui_exports.specs.Linked.{Linked}
 use Rattle.ui_consts.specs.Record.{Holds}
 use Rattle.ui_sums.specs.Form.{Form as SourceForm, imported}
 use Rattle.ui_sums.specs.Verdict.{verdict}
 use Rattle.ui_below.specs.Join.{marked}
 use Rattle.ui_build.specs.Plan.{Text, Refusal, Entry, Plan, done, settled, ◌>>=◌}
-use Rattle.ui_build.specs.Package.{Source, folder, find, read_form, file_limit, unit_file, linked_file}
-use Rattle.ui_build.specs.Build.{Packages, brings, below_of, reads, or_fault, values, judged, write_files, compile}
+use Rattle.ui_build.specs.Package.{folder, find, read_form, file_limit, unit_file, linked_file}
+use Rattle.ui_build.specs.Build.{Packages, below_of, reads, or_fault, values, judged, write_files, compile}
 use Rattle.ui_build.specs.Loading.{with_print, linked_as, mark_of, entry_of, prepared}
-use Rattle.ui_build.specs.Stops.{State, state, IsFileOf, Puts, Ends, DoesStop, Does, DoesTold}
+use Rattle.ui_build.specs.Stops.{State, IsFileOf, Puts, Ends, DoesStop, Does, DoesTold}
 use Rattle.ui_build.specs.Built.{IsReady, AreBuilt, Stands}
 use Rattle.ui_build.specs.declared.stop.Stop.{Stop}
 use Rattle.ui_build.proofs.Steps.{does_then, does_stop, ends_none, ends_mapped, stop_mapped, bind_ok}

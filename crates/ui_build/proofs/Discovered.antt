@@ -1,7 +1,7 @@
 -- What discovery found, and the order of it.
-use Rattle.std.proofs.Common.{◌≡◌, ◌∙◌, ap, sym, subst, refl, ℕ, zero, suc, ◌+◌, ◌≤◌, length, true, false, cond, Bool, List, [], ◌∷◌, ◌++◌, Option, Some, None, Result, Ok, Err, arith, append_assoc}
+use Rattle.std.proofs.Common.{◌≡◌, ◌∙◌, ap, sym, subst, refl, ℕ, zero, suc, ◌+◌, ◌≤◌, length, true, false, cond, Bool, List, [], ◌∷◌, ◌++◌, Some, None, Result, Ok, Err, arith, append_assoc}
 use Rattle.std.specs.Prelude.{bytes_eq, is_some, ◌||◌, nat_lt, find, unwrap_or}
-use Rattle.std.specs.List.{AllByRecursion, list_any, list_all}
+use Rattle.std.specs.List.{AllByRecursion}
 use Rattle.std.specs.Ordering.{nat_cmp}
 use Rattle.std.specs.Cmp.Lexicographic.{slice_cmp, nat_list_cmp_total, nat_list_eq_equiv}
 use Rattle.std.specs.FinMap.{empty, get, insert, contains_key, get-insert, get-empty, len, len-insert, len-empty, keys}
@@ -9,11 +9,11 @@ use Rattle.std.proofs.lemmas.Bool.{ltb-false}
 use Rattle.std.proofs.lemmas.List.{length-append}
 use Rattle.ui_store.specs.Files.{Files}
 use Rattle.ui_order.specs.Steps.{has, order_from, and_then, is_ready}
-use Rattle.ui_order.specs.Found.{Graph, Found, IsFound, IsClosed, begun, least_unread, with_imports, found_count, imports_of}
+use Rattle.ui_order.specs.Found.{Graph, Found, IsFound, begun, least_unread, with_imports, found_count, imports_of}
 use Rattle.ui_order.specs.Order as orders
 use Rattle.ui_order.specs.Order.{Arrangement, cycle, paths, arranged, IsOnCycle}
 use Rattle.ui_order.specs.Laws.{BeginsFound, KeepsFound, ClosesAtEnd, TakesImportsFirst, TakesAll, ArrangesAcyclic}
-use Rattle.ui_build.specs.Plan.{Text, Refusal, TooMany, Cycle, settled}
+use Rattle.ui_build.specs.Plan.{Text, Refusal, TooMany, settled}
 use Rattle.ui_build.specs.Package.{Source, folder, imports_in}
 use Rattle.ui_build.specs.Package as packages
 use Rattle.ui_build.specs.Build.{package_limit, within_limit, discover, discover_next, discover_one, order_or, ordered, build_order}

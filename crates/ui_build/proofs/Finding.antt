@@ -6,7 +6,7 @@ use Rattle.std.proofs.lemmas.List.{map-append, take_more, take-append-drop}
 use Rattle.ui_store.specs.Files.{Files}
 use Rattle.ui_store.specs.Calls.{Calls}
 use Rattle.ui_order.specs.Found.{Found, begun, least_unread}
-use Rattle.ui_build.specs.Plan.{Text, TooMany, Plan, done, refused, ◌>>=◌}
+use Rattle.ui_build.specs.Plan.{Text, TooMany, ◌>>=◌}
 use Rattle.ui_build.specs.Build.{package_limit, discover, discover_next, discover_one}
 use Rattle.ui_build.specs.Stops.{State, state, DoesTold}
 use Rattle.ui_build.specs.declared.stop.Refusal.TheVariants as told

@@ -1,7 +1,9 @@
 -- The form of a source is that of its package's path.
-use Rattle.std.proofs.Common.{◌≡◌, ap, sym, length, ◌&&◌, Bool, true, false, cond, List, [], ◌∷◌, Option, Some, None}
+use Rattle.std.proofs.Common.{◌≡◌, ◌≤◌, ap, sym, length, not, ◌&&◌, Bool, true, false, cond, List, [], ◌∷◌, Option, Some, None}
 use Rattle.std.specs.Prelude.{nat_le}
 use Rattle.std.specs.Option.{option_and_then}
+use Rattle.std.proofs.lemmas.Bool.{and_parts, leb-true}
+use Rattle.ui_base.specs.Paths.{is_path, is_reserved, has_segments}
 use Rattle.ui_sums.specs.Form.{Form, form_of, form_of_lines, form_of_body, has_names}
 use Rattle.ui_sums.specs.Lines.{lines_of, body_in, is_package_line}
 use Rattle.ui_build.specs.Plan.{Text}
@@ -29,3 +31,8 @@ unfolding form_of
 form_path path file bytes f is =
     let a = then_some (form_of_lines path file) (lines_of bytes) f (chosen_some (nat_le (length file) 255 && nat_le (length bytes) 4096) _ f is) in
     lines_path path file a.0 f a.1
+
+-- a valid path isn't too long
+pub path_fits : (path : Text) → is_path path ≡ true → length path ≤ 255
+unfolding is_path
+path_fits path is = leb-true (length path) 255 (and_parts (nat_le (length path) 255) (not (is_reserved path)) (and_parts (nat_le (length path) 255 && not (is_reserved path)) (has_segments path) is).0).0

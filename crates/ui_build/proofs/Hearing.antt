@@ -1,6 +1,6 @@
 -- How what steps heard joins, and why a step was refused by it.
 use Rattle.std.proofs.Common.{◌≡◌, ◌∙◌, ap, sym, subst, refl, ℕ, ◌+◌, ◌<◌, length, take, get_or, Bool, true, false, cond, List, [], ◌∷◌, ◌++◌, map, ◌⊎◌, inl, inr, Option, Some, None, Result, Ok, Err, append_assoc, append-nil, arith}
-use Rattle.std.specs.Prelude.{filter, String, string_bytes, bytes_eq, nat_le, nat_lt, Vec}
+use Rattle.std.specs.Prelude.{filter, String, string_bytes, bytes_eq, nat_lt, Vec}
 use Rattle.std.specs.declared.alloc.Global.{Global}
 use Rattle.std.proofs.lemmas.List.{map-append, take_more}
 use Rattle.std.proofs.lemmas.List.Elements.{filter-append}
@@ -12,6 +12,7 @@ use Rattle.ui_store.specs.declared.store.Given.TheVariants as given
 use Rattle.ui_frame.specs.Container.{fingerprint}
 use Rattle.ui_frame.specs.Opening.{first_failing, parts_in}
 use Rattle.ui_frame.specs.declared.frame.FrameFault.{FrameFault}
+use Rattle.ui_base.specs.Paths.{is_path}
 use Rattle.ui_types.specs.declared.check_fault.Fault.{Fault}
 use Rattle.ui_exports.specs.Export.{Export}
 use Rattle.ui_exports.specs.Linked.{Linked, Below}
@@ -25,7 +26,7 @@ use Rattle.ui_below.specs.Join as apart
 use Rattle.ui_build.specs.Plan.{Text, Refusal, NoFile, Form, Faulty, TooLong, BadFrame, BadElement, TooMany, Cycle, Stale}
 use Rattle.ui_build.specs.Package as plans
 use Rattle.ui_build.specs.Package.{folder, file_in, linked_file, is_source, form_or}
-use Rattle.ui_build.specs.Build.{package_limit, has_names, or_fault}
+use Rattle.ui_build.specs.Build.{package_limit, or_fault}
 use Rattle.ui_build.specs.Loading.{Loaded, Imports, with_loaded, recorded, opened, or_element, or_apart, with_export, judged_with, judgement}
 use Rattle.ui_build.specs.Sources.{source, sources_of}
 use Rattle.ui_build.specs.Stops.{SettlesStop, refusal_of}
@@ -71,13 +72,9 @@ package_later before heard r b = record {
   refused = b.refused;
 }
 
-form_later : (before heard : List Hearing) (r : Refusal) → (BadSource r heard ⊎ BadPackage r heard) → (BadSource r (before ++ heard) ⊎ BadPackage r (before ++ heard))
-form_later before heard r (inl b) = inl (source_later before heard r b)
-form_later before heard r (inr b) = inr (package_later before heard r b)
-
 refused_later : (before heard : List Hearing) (r : Refusal) → RefusedBy r heard → RefusedBy r (before ++ heard)
 refused_later before heard (NoFile name) by = lacks_later before heard name by
-refused_later before heard (Form name) by = form_later before heard (Form name) by
+refused_later before heard (Form name) by = source_later before heard (Form name) by
 refused_later before heard (Faulty fault) by = package_later before heard (Faulty fault) by
 refused_later before heard (TooLong name) by = linked_later before heard (TooLong name) by
 refused_later before heard (BadFrame name fault) by = linked_later before heard (BadFrame name fault) by
@@ -239,14 +236,14 @@ no_form : (name : Text) (found : Option SourceForm) (r : Refusal) → plans.or_f
 no_form name (Some form) r e = absurd cc
 no_form name None r e = (name, err_is {X = SourceForm} (Form name) r e)
 
-short_form : (name : Text) (b : Bool) (found : Option SourceForm) (r : Refusal) → cond b (plans.or_form name found) (Err (Form name)) ≡ Err r → (n : Text) × (r ≡ Form n)
-short_form name true found r e = no_form name found r e
-short_form name false found r e = (name, err_is {X = SourceForm} (Form name) r e)
+valid_form : (name : Text) (b : Bool) (found : Option SourceForm) (r : Refusal) → cond b (plans.or_form name found) (Err (Form name)) ≡ Err r → (n : Text) × (r ≡ Form n)
+valid_form name true found r e = no_form name found r e
+valid_form name false found r e = (name, err_is {X = SourceForm} (Form name) r e)
 
 no_form_by : (path : Text) (sources : List plans.Source) (r : Refusal) → form_or path sources ≡ Err r → IsNoForm path sources r
 unfolding form_or
 no_form_by path [] r e = inl (refl, err_is {X = SourceForm} (NoFile (folder path)) r e)
-no_form_by path ((name, Some bytes) ∷ []) r e = inr (short_form name (nat_le (length path) 255) (form_of path name bytes) r e)
+no_form_by path ((name, Some bytes) ∷ []) r e = inr (valid_form name (is_path path) (form_of path name bytes) r e)
 no_form_by path ((name, None) ∷ []) r e = inr (name, err_is {X = SourceForm} (Form name) r e)
 no_form_by path ((name, bytes) ∷ other ∷ others) r e = inr (name, err_is {X = SourceForm} (Form name) r e)
 
@@ -255,7 +252,7 @@ form_refused path sources found r finds is =
     let P : Refusal → Type 0 = λ q. RefusedBy q found in
     elim (no_form_by path sources r is) [
       | inl (none, eq) ↦ subst P (sym eq) (lists_last (folder path) sources found none finds)
-      | inr (name, eq) ↦ subst P (sym eq) (inl (record { path = path; sources = sources; before = []; found = found; whole = refl; finds = finds; refused = is ∙ ap (failing {X = SourceForm}) eq }))
+      | inr (name, eq) ↦ subst P (sym eq) (record { path = path; sources = sources; before = []; found = found; whole = refl; finds = finds; refused = is ∙ ap (failing {X = SourceForm}) eq })
     ]
 
 pub form_stopped : (path : Text) (sources : List plans.Source) (found : List Hearing) (s : Stop) → SettlesStop (form_or path sources) s → FindsSources (folder path) sources found → StoppedBy s found
@@ -411,7 +408,7 @@ hears_package path form imports a b read l = record { sources = a; linked = b; w
 -- the refusals of a package by its sources and the linked files of its imports
 abbrev IsPackage : Refusal → Type 0
 IsPackage (NoFile name) = ⊥
-IsPackage (Form name) = Unit {0}
+IsPackage (Form name) = ⊥
 IsPackage (Faulty fault) = Unit {0}
 IsPackage (TooLong name) = ⊥
 IsPackage (BadFrame name fault) = ⊥
@@ -423,12 +420,8 @@ IsPackage (Stale path first second) = Unit {0}
 package_is : {X : Type 0} (x y : Refusal) → failing {X = X} x ≡ failing y → IsPackage x → IsPackage y
 package_is x y e h = subst IsPackage (sym (err_is x y e)) h
 
-no_names : (name : Text) (export : Export) (b : Bool) (r : Refusal) → cond b (Ok export) (Err (Form name)) ≡ Err r → IsPackage r
-no_names name export true r e = absurd cc
-no_names name export false r e = package_is {X = Export} (Form name) r e tt
-
 no_export : (found : Result Export Fault) (r : Refusal) → or_fault found ≡ Err r → IsPackage r
-no_export (Ok export) r e = no_names (folder export.path) export (has_names export) r e
+no_export (Ok export) r e = absurd cc
 no_export (Err fault) r e = package_is {X = Export} (Faulty fault) r e tt
 
 with_no_export : (below : List Below) (found : Result Export Refusal) (r : Refusal) → with_export below found ≡ Err r → ((q : Refusal) → found ≡ Err q → IsPackage q) → IsPackage r
@@ -460,7 +453,7 @@ bad_package path form all heard r hears is = record { path = path; form = form; 
 
 package_refused : (path : Text) (form : SourceForm) (all : List Loaded) (heard : List Hearing) (r : Refusal) → HearsPackage path form all heard → judgement path form (pairs_of all) ≡ Err r → RefusedBy r heard
 package_refused path form all heard (NoFile name) hears is = absurd (no_package path form (pairs_of all) (NoFile name) (λ h. h) is)
-package_refused path form all heard (Form name) hears is = inr (bad_package path form all heard (Form name) hears is)
+package_refused path form all heard (Form name) hears is = absurd (no_package path form (pairs_of all) (Form name) (λ h. h) is)
 package_refused path form all heard (Faulty fault) hears is = bad_package path form all heard (Faulty fault) hears is
 package_refused path form all heard (TooLong name) hears is = absurd (no_package path form (pairs_of all) (TooLong name) (λ h. h) is)
 package_refused path form all heard (BadFrame name fault) hears is = absurd (no_package path form (pairs_of all) (BadFrame name fault) (λ h. h) is)

@@ -1,24 +1,23 @@
 -- What a package stands for by the linked files of its imports, and that it can be written.
-use Rattle.std.proofs.Common.{◌≡◌, ◌∙◌, ap, sym, subst, refl, ℕ, suc, ◌≤◌, length, Bool, true, false, ◌&&◌, List, [], ◌∷◌, map, Result, Ok, Err}
+use Rattle.std.proofs.Common.{◌≡◌, ◌∙◌, ap, sym, subst, refl, ℕ, suc, ◌≤◌, length, Bool, true, false, ◌&&◌, List, [], ◌∷◌, map, Result, Ok}
 use Rattle.std.specs.Prelude.{nat_eq}
 use Rattle.std.specs.List.{AllByRecursion, list_all}
 use Rattle.std.specs.FinMap.{entries}
 use Rattle.std.proofs.lemmas.Bool.{eqb-true}
-use Rattle.ui_base.specs.Names.{is_name}
 use Rattle.ui_base.specs.Paths.{is_path}
-use Rattle.ui_strpos.specs.Elements.{is_some_text}
 use Rattle.ui_exports.specs.Export.{Declaration, Export}
 use Rattle.ui_exports.specs.Linked.{Linked, Below}
 use Rattle.ui_sums.specs.Form.{Form as SourceForm}
 use Rattle.ui_sums.specs.Verdict.{environment_of, verdict}
-use Rattle.ui_consts.specs.Size.{IsSmallExport, HasName, HasNames, IsBelow, IsListed, IsSmall}
+use Rattle.ui_sums.specs.Size as sums
+use Rattle.ui_consts.specs.Size.{IsSmallEntry, IsSmallExport, HasNames, IsBelow, IsSmall}
 use Rattle.ui_below.specs.Claims.{claims}
 use Rattle.ui_below.specs.Join.{joined, JoinedIsListed, JoinedHolds}
 use Rattle.ui_build.specs.Plan.{Text, Refusal}
-use Rattle.ui_build.specs.Build.{has_names, is_named, or_fault, package_limit}
+use Rattle.ui_build.specs.Build.{or_fault, package_limit}
 use Rattle.ui_build.specs.Loading.{Imports, or_apart, with_export, judged_with, judgement}
 use Rattle.ui_build.specs.Views.{is_sound}
-use Rattle.ui_build.specs.Stops.{SettlesStop, refusal_of}
+use Rattle.ui_build.specs.Stops.{SettlesStop}
 use Rattle.ui_build.specs.declared.stop.Stop.{Stop}
 use Rattle.ui_build.specs.declared.stop.Stop.TheVariants as stop
 
@@ -61,16 +60,13 @@ second_true : (a b : Bool) → (a && b) ≡ true → b ≡ true
 second_true true b e = e
 second_true false b e = absurd cc
 
-named_entries : (es : List (Text × Declaration)) → list_all is_named es ≡ true → AllByRecursion HasName es
-named_entries [] h = tt
-named_entries (e ∷ es) h =
-    let a = first_true (is_named e) (list_all is_named es) h in
-    (record { name = first_true (is_name e.0) (is_some_text e.1.file) a; file = second_true (is_name e.0) (is_some_text e.1.file) a }, named_entries es (second_true (is_named e) (list_all is_named es) h))
+small_entries : (es : List (Text × Declaration)) → AllByRecursion sums.IsSmallEntry es → AllByRecursion IsSmallEntry es
+small_entries [] h = tt
+small_entries (e ∷ es) (s, rest) = (record { name = s.name; file = s.file; line = s.line; line_fits = s.line_fits; column = s.column; column_fits = s.column_fits; value = s.value }, small_entries es rest)
 
-names : (e : Export) → has_names e ≡ true → HasNames e
-names e h =
-    let a = first_true (is_path e.path && is_name e.name) (list_all is_named (entries e.decls)) h in
-    record { path = first_true (is_path e.path) (is_name e.name) a; name = second_true (is_path e.path) (is_name e.name) a; entries = named_entries (entries e.decls) (second_true (is_path e.path && is_name e.name) (list_all is_named (entries e.decls)) h) }
+-- what a check bounds is what can be written
+pub small_export : (e : Export) → sums.IsSmallExport e → IsSmallExport e
+small_export e s = record { path = s.path; name = s.name; few = s.few; entries = small_entries (entries e.decls) s.entries }
 
 each_below : (below : List Below) → list_all (λ (b : Below). is_sound b.path b.print) below ≡ true → AllByRecursion IsBelow below
 each_below [] h = tt
@@ -78,11 +74,11 @@ each_below (b ∷ bs) h =
     let a = first_true (is_sound b.path b.print) (list_all (λ (x : Below). is_sound x.path x.print) bs) h in
     (record { path = first_true (is_path b.path) (nat_eq (length b.print) 8) a; print = eqb-true (length b.print) 8 (second_true (is_path b.path) (nat_eq (length b.print) 8) a) }, each_below bs (second_true (is_sound b.path b.print) (list_all (λ (x : Below). is_sound x.path x.print) bs) h))
 
-pub is_small : (own : Text) (cs below : List Below) (export : Export) → JoinedIsListed → JoinedHolds → list_all (λ (c : Below). is_sound c.path c.print) cs ≡ true → joined own cs ≡ Ok below → length below ≤ package_limit → IsSmallExport export → has_names export ≡ true
+pub is_small : (own : Text) (cs below : List Below) (export : Export) → JoinedIsListed → JoinedHolds → list_all (λ (c : Below). is_sound c.path c.print) cs ≡ true → joined own cs ≡ Ok below → length below ≤ package_limit → IsSmallExport export → HasNames export
     → IsSmall (record { export = export; below = below })
 is_small own cs below export listed holds sound is few small named = record {
   export = small;
-  names = names export named;
+  names = named;
   below = record { each = each_below below (holds is_sound own cs below sound is); ascending = listed own cs below is };
   few_below = few;
 }

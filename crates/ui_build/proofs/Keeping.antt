@@ -1,5 +1,5 @@
 -- A file outside the sources is written: what is found of the sources stays.
-use Rattle.std.proofs.Common.{◌≡◌, ◌+◌, ℕ, ◌∙◌, ap, sym, refl, Bool, true, false, cond, ◌&&◌, List, [], ◌∷◌, ◌++◌, map, Option, Some, None, Result, Ok, Err}
+use Rattle.std.proofs.Common.{◌≡◌, ◌+◌, ℕ, ◌∙◌, ap, sym, refl, Bool, true, false, cond, ◌&&◌, List, [], ◌∷◌, ◌++◌, map, Option, Some, None, Result}
 use Rattle.std.specs.Prelude.{filter, nat_eq, nat_lt, not, length, drop, slice_index, filter_map, codes}
 use Rattle.std.specs.Ordering.{nat_cmp, eq_by_cmp, is_eq}
 use Rattle.std.specs.List.{starts_with, cons_option}
@@ -7,10 +7,10 @@ use Rattle.std.specs.Cmp.{eq_by_cmp_equiv}
 use Rattle.std.specs.Cmp.Lexicographic.{slice_cmp, nat_list_cmp_total}
 use Rattle.std.specs.declared.cmp.Ordering.{Ordering}
 use Rattle.std.specs.declared.cmp.Ordering.TheVariants.{Less, Equal, Greater}
-use Rattle.std.specs.FinMap.{FinMap, get, insert, entries, keys, get-insert, entries-insert, slice_cmp-IsAntisymmetric, nat_cmp-IsAntisymmetric}
+use Rattle.std.specs.FinMap.{FinMap, get, insert, entries, get-insert, entries-insert, slice_cmp-IsAntisymmetric, nat_cmp-IsAntisymmetric}
 use Rattle.std.specs.FinMap.Entries.{put, by_order}
 use Rattle.std.proofs.lemmas.List.{append_cancel_right}
-use Rattle.ui_store.specs.Files.{Files, listing, reading, within, part_in, is_part, names_in, if_names, has_slash}
+use Rattle.ui_store.specs.Files.{Files, listing, reading, within, part_in, if_names, has_slash}
 use Rattle.ui_store.specs.declared.fault.StoreFault.{StoreFault}
 use Rattle.ui_store.specs.declared.store.AskKind.TheVariants as ask
 use Rattle.ui_build.specs.Plan.{Text, Plan, done, ◌>>=◌, asking}

@@ -1,6 +1,6 @@
 -- What was written is what the linked file stands for.
-use Rattle.std.proofs.Common.{◌≡◌, ◌∙◌, ap, sym, subst, refl, length, ◌≤◌, ◌++◌, ℕ, Bool, true, false, cond, List, [], ◌∷◌, map, Option, Some, None, Result, Ok, Err, append_assoc, append-nil}
-use Rattle.std.specs.Prelude.{is_some, nat_lt}
+use Rattle.std.proofs.Common.{◌≡◌, ◌∙◌, ap, sym, subst, refl, length, ◌≤◌, ◌++◌, ℕ, true, cond, List, [], ◌∷◌, map, Option, Some, None, Ok, Err, append_assoc, append-nil}
+use Rattle.std.specs.Prelude.{is_some}
 use Rattle.std.specs.List.{AllByRecursion}
 use Rattle.std.specs.FinMap.{empty, get, contains_key}
 use Rattle.std.specs.Cmp.Lexicographic.{nat_list_eq_equiv}
@@ -19,7 +19,6 @@ use Rattle.ui_build.specs.Package.{linked_file, file_limit, read_as}
 use Rattle.ui_build.specs.Build.{Packages, reads}
 use Rattle.ui_build.specs.Loading.{Loaded, print_in, print_of, linked_as, load, load_all, with_loaded, recorded, opened, or_element}
 use Rattle.ui_build.specs.Built.{IsBuilt, AreBuilt}
-use Rattle.ui_build.proofs.Plans.{bind_assoc}
 
 -- the laws of containers
 pub record Containers : Type 0 where

@@ -1,6 +1,6 @@
 -- How the linked files read so far follow from the paths so far.
-use Rattle.std.proofs.Common.{◌≡◌, ◌∙◌, ap, sym, subst, refl, ℕ, zero, suc, ◌+◌, ◌<◌, ◌≤◌, length, true, false, ◌&&◌, Bool, List, [], ◌∷◌, ◌++◌, drop, take, get_or, map, Option, Result, Ok, Err, add-one, arith, append_assoc, append-nil}
-use Rattle.std.specs.Prelude.{String, string_bytes, Vec, nat_eq}
+use Rattle.std.proofs.Common.{◌≡◌, ◌∙◌, ap, sym, subst, refl, ℕ, zero, suc, ◌+◌, ◌<◌, length, true, false, ◌&&◌, Bool, List, [], ◌∷◌, ◌++◌, drop, take, get_or, map, Option, Result, Ok, Err, add-one, arith, append_assoc, append-nil}
+use Rattle.std.specs.Prelude.{String, string_bytes, nat_eq}
 use Rattle.std.specs.List.{AllByRecursion, list_all}
 use Rattle.std.specs.declared.alloc.Global.{Global}
 use Rattle.std.proofs.Math.Seq.{drop-cons}
@@ -11,7 +11,7 @@ use Rattle.ui_store.specs.Files.{Files}
 use Rattle.ui_store.specs.Calls.{Calls}
 use Rattle.ui_exports.specs.Linked.{Linked, Below}
 use Rattle.ui_consts.specs.Size.{IsListed, IsBelow}
-use Rattle.ui_below.specs.Claims.{claim, claims, claims_of, indirect}
+use Rattle.ui_below.specs.Claims.{claims, claims_of, indirect}
 use Rattle.ui_build.specs.Plan.{Text}
 use Rattle.ui_build.specs.Loading as plans
 use Rattle.ui_build.specs.Loading.{load, load_all, with_loaded}

@@ -1,7 +1,7 @@
 -- Packages are compiled in their order: what stands so far, and that the rest does the same as the whole.
 use Rattle.std.proofs.Common.{◌≡◌, ◌∙◌, ap, sym, subst, refl, ℕ, ◌+◌, ◌<◌, ◌≤◌, length, true, false, cond, Bool, List, [], ◌∷◌, ◌++◌, drop, take, get_or, map, Option, Some, None, Result, Ok, Err, arith, append-nil}
 use Rattle.std.specs.Prelude.{String, string_bytes, bytes_eq, is_some, ◌||◌}
-use Rattle.std.specs.List.{AllByRecursion, list_any}
+use Rattle.std.specs.List.{AllByRecursion}
 use Rattle.std.specs.declared.alloc.Global.{Global}
 use Rattle.std.specs.Cmp.Lexicographic.{nat_list_cmp_total, bytes_decides}
 use Rattle.std.specs.FinMap.{empty, get, insert, contains_key, get-insert, len, len-insert, get-empty, len-empty}
@@ -13,14 +13,13 @@ use Rattle.ui_store.specs.Calls.{Calls}
 use Rattle.ui_store.specs.Files.{Files}
 use Rattle.ui_exports.specs.Linked.{Linked}
 use Rattle.ui_order.specs.Steps.{has}
-use Rattle.ui_build.specs.Plan.{Text, Entry, done, ◌>>=◌}
+use Rattle.ui_build.specs.Plan.{Text, Entry}
 use Rattle.ui_build.specs.Build.{Packages, package_limit, compile, compile_all}
 use Rattle.ui_build.specs.Loading.{entry_of}
-use Rattle.ui_build.specs.Stops.{State, state, Ends, Does, DoesStop, Carries}
-use Rattle.ui_build.specs.Built.{SameSources, AreBuilt, IsReady, IsInOrder, Stands, Compiled, imports_by}
+use Rattle.ui_build.specs.Stops.{State, state, Does, DoesStop, Carries}
+use Rattle.ui_build.specs.Built.{AreBuilt, IsReady, IsInOrder, Stands, Compiled, imports_by}
 use Rattle.ui_build.specs.declared.stop.Stop.{Stop}
-use Rattle.ui_build.specs.declared.stop.Stop.TheVariants as stop
-use Rattle.ui_build.proofs.Steps.{carries_then, does_stop, ends_none, stops_none}
+use Rattle.ui_build.proofs.Steps.{carries_then, does_stop, ends_none}
 use Rattle.ui_build.proofs.Keeping.{same_name, equal_names, names_equal}
 use Rattle.ui_build.proofs.LoadingAll.{Names, paths_from, path_here}
 

@@ -1,7 +1,7 @@
 -- How plans join.
-use Rattle.std.proofs.Common.{◌≡◌, ◌∙◌, ap, sym, refl, List, [], ◌∷◌, ◌++◌, Result, Ok, Err, append_assoc, append-nil}
+use Rattle.std.proofs.Common.{◌≡◌, ap, refl, List, [], ◌++◌, Result, Ok, Err, append_assoc, append-nil}
 use Rattle.ui_store.specs.Calls.{Ask}
-use Rattle.ui_build.specs.Plan.{Refusal, Put, Plan, done, refused, next, ◌>>=◌}
+use Rattle.ui_build.specs.Plan.{Refusal, Put, Plan, next, ◌>>=◌}
 
 -- a plan, and what follows
 abbrev along : {X Y : Type 0} → Plan X → Plan Y → Plan Y

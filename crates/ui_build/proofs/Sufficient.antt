@@ -1,10 +1,10 @@
 -- What the linked files of the imports give is what the sources alone give.
-use Rattle.std.proofs.Common.{◌≡◌, ◌∙◌, ap, sym, subst, refl, length, ◌≤◌, ◌<◌, ◌++◌, ℕ, zero, suc, Bool, true, false, cond, List, [], ◌∷◌, map, Option, Some, None, Result, Ok, Err, append_assoc, append-nil, get_or, arith}
-use Rattle.std.specs.Prelude.{is_some, nat_lt, bytes_eq, find, flat_map, option_map, Contains, ◌||◌}
+use Rattle.std.proofs.Common.{◌≡◌, ◌∙◌, ap, sym, subst, refl, length, ◌≤◌, ◌++◌, ℕ, zero, suc, Bool, true, false, cond, List, [], ◌∷◌, map, Some, Result, Ok, Err, arith}
+use Rattle.std.specs.Prelude.{bytes_eq, find, flat_map, Contains, ◌||◌}
 use Rattle.std.specs.Option.{option_and_then}
 use Rattle.std.specs.List.{AllByRecursion, list_any}
-use Rattle.std.specs.Cmp.Lexicographic.{nat_list_eq_equiv, bytes_decides}
-use Rattle.std.specs.FinMap.{get, contains_key, len, len-entries, entries}
+use Rattle.std.specs.Cmp.Lexicographic.{bytes_decides}
+use Rattle.std.specs.FinMap.{contains_key, len, len-entries, entries}
 use Rattle.std.proofs.lemmas.Bool.{le-ltb}
 use Rattle.std.proofs.lemmas.List.{map-append}
 use Rattle.ui_store.specs.Files.{Files}
@@ -12,16 +12,16 @@ use Rattle.ui_exports.specs.Export.{Export}
 use Rattle.ui_exports.specs.Linked.{Linked, Below}
 use Rattle.ui_sums.specs.Form.{Form as SourceForm, imported}
 use Rattle.ui_sums.specs.Verdict.{environment_of, verdict, constant_of, IsLocal}
-use Rattle.ui_below.specs.Claims.{claim, claims, claims_of, indirect}
-use Rattle.ui_below.specs.Join.{joined, marked, Apart, JoinedAsMarked, MarksThePaths}
-use Rattle.ui_build.specs.Plan.{Text, Refusal, TooMany, Entry, Plan, done, refused, settled, ◌>>=◌}
-use Rattle.ui_build.specs.Package.{Source, folder, find as find_sources, form_or, read_form, imports_in, imports_of_form}
+use Rattle.ui_below.specs.Claims.{claims, claims_of, indirect}
+use Rattle.ui_below.specs.Join.{joined, marked, JoinedAsMarked, MarksThePaths}
+use Rattle.ui_build.specs.Plan.{Text, Refusal, TooMany, Entry, Plan, done, settled, ◌>>=◌}
+use Rattle.ui_build.specs.Package.{Source, folder, find as find_sources, form_or, read_form, imports_of_form}
 use Rattle.ui_build.specs.Build.{Packages, package_limit, values, value_in, brings, below_in, not_direct, below_of, or_fault, reads, judged}
 use Rattle.ui_build.specs.Loading.{Imports, print_of, with_print, linked_as, mark_of, load_all, or_apart, with_export, judged_with, judgement, prepared}
-use Rattle.ui_build.specs.Built.{SameSources, IsBuilt, AreBuilt, imports_found, imports_by, IsReady}
+use Rattle.ui_build.specs.Built.{AreBuilt, imports_found, IsReady}
 use Rattle.ui_build.proofs.Plans.{bind_same, bind_assoc}
 use Rattle.ui_build.proofs.Within.{len_within}
-use Rattle.ui_build.proofs.Linking.{Containers, Records, entry_or, entry_at, entry_there, linked_at, load_all-built}
+use Rattle.ui_build.proofs.Linking.{Containers, Records, entry_at, entry_there, linked_at, load_all-built}
 
 abbrev pub AreThere : Packages → List Text → Type 0
 AreThere packages paths = AllByRecursion (λ q. contains_key packages q ≡ true) paths

@@ -1,11 +1,11 @@
 -- A map whose keys are among those of another has no more of them.
-use Rattle.std.proofs.Common.{◌≡◌, ◌∙◌, ap, sym, subst, refl, ℕ, zero, suc, ◌-◌, ◌≤◌, length, Bool, true, false, cond, List, [], ◌∷◌, map, Option, Some, None, arith}
-use Rattle.std.specs.Prelude.{is_some, ◌||◌, not}
+use Rattle.std.proofs.Common.{◌≡◌, ◌∙◌, ap, sym, refl, ℕ, zero, suc, ◌-◌, ◌≤◌, length, Bool, true, false, cond, List, [], ◌∷◌, map, Option, None, arith}
+use Rattle.std.specs.Prelude.{is_some, ◌||◌}
 use Rattle.std.specs.List.{list_any}
-use Rattle.std.specs.Ordering.{nat_cmp, eq_by_cmp}
+use Rattle.std.specs.Ordering.{nat_cmp}
 use Rattle.std.specs.Cmp.{eq_by_cmp_equiv}
 use Rattle.std.specs.Cmp.Lexicographic.{slice_cmp, nat_list_cmp_total}
-use Rattle.std.specs.FinMap.{FinMap, get, remove, contains_key, len, entries, keys, empty, contains_key-keys, get-remove, len-remove, len-entries, empty_of_len, get-empty}
+use Rattle.std.specs.FinMap.{FinMap, get, remove, contains_key, len, entries, contains_key-keys, get-remove, len-remove, len-entries, empty_of_len, get-empty}
 use Rattle.ui_build.specs.Plan.{Text}
 use Rattle.ui_build.proofs.Keeping.{same_name}
 

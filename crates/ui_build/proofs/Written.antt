@@ -1,11 +1,11 @@
 -- The files of a package are written: what stood for other packages still does, and its linked file stands for it.
-use Rattle.std.proofs.Common.{◌≡◌, ◌∙◌, ap, sym, subst, refl, Bool, true, false, cond, List, [], ◌∷◌, map, Option, Some, None, IfSome, Result, Ok, Err}
-use Rattle.std.specs.Prelude.{is_some, length, ◌≤◌}
+use Rattle.std.proofs.Common.{◌≡◌, ◌∙◌, ap, sym, subst, refl, Bool, true, false, cond, List, [], ◌∷◌, map, Option, Some}
+use Rattle.std.specs.Prelude.{is_some}
 use Rattle.std.specs.List.{AllByRecursion}
 use Rattle.std.specs.Cmp.Lexicographic.{nat_list_cmp_total}
-use Rattle.std.specs.FinMap.{get, insert, contains_key, get-insert, len}
+use Rattle.std.specs.FinMap.{get, insert, contains_key, get-insert}
 use Rattle.ui_store.specs.Files.{Files, put}
-use Rattle.ui_exports.specs.Linked.{Linked, Below}
+use Rattle.ui_exports.specs.Linked.{Linked}
 use Rattle.ui_consts.specs.Record.{Holds}
 use Rattle.ui_build.specs.Plan.{Text, Entry, Put}
 use Rattle.ui_build.specs.Package.{unit_file, linked_file}
@@ -13,7 +13,7 @@ use Rattle.ui_build.specs.Build.{Packages}
 use Rattle.ui_build.specs.Loading.{print_in, print_of, with_print, linked_as}
 use Rattle.ui_build.specs.Stops.{IsFileOf, Puts}
 use Rattle.ui_build.specs.Built.{SameSources, IsBuilt, AreBuilt, Stands}
-use Rattle.ui_build.proofs.Keeping.{same_name, get_other, get_same, equal_names, names_equal, linked_apart, unit_elsewhere, linked_elsewhere, keeps_sources}
+use Rattle.ui_build.proofs.Keeping.{same_name, get_other, get_same, equal_names, linked_apart, unit_elsewhere, linked_elsewhere, keeps_sources}
 
 -- ---- packages before
 

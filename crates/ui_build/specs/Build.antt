@@ -1,22 +1,18 @@
 -- What building a package is to do, by the sources alone. This project's own.
-use Rattle.std.specs.Prelude.{ℕ, zero, suc, Bool, List, [], ◌∷◌, map, flat_map, true, false, Option, Some, None, option_map, Result, Ok, Err, nat_lt, ◌&&◌, if◌then◌else◌}
-use Rattle.std.specs.List.{list_all}
+use Rattle.std.specs.Prelude.{ℕ, zero, suc, Bool, List, [], ◌∷◌, map, flat_map, true, false, Option, Some, None, option_map, Result, Ok, Err, nat_lt, if◌then◌else◌}
 use Rattle.std.specs.Ordering.{nat_cmp}
 use Rattle.std.specs.Cmp.Lexicographic.{slice_cmp}
 use Rattle.std.specs.FinMap.{FinMap, empty, entries, get, insert}
 use Rattle.ui_store.specs.Files.{Files}
 use Rattle.ui_store.specs.declared.store.AskKind.TheVariants as ask
 use Rattle.ui_types.specs.declared.check_fault.Fault.{Fault}
-use Rattle.ui_base.specs.Names.{is_name}
-use Rattle.ui_base.specs.Paths.{is_path}
-use Rattle.ui_strpos.specs.Elements.{is_some_text}
-use Rattle.ui_exports.specs.Export.{Declaration, Export}
+use Rattle.ui_exports.specs.Export.{Export}
 use Rattle.ui_sums.specs.Form.{Form as SourceForm, imported}
 use Rattle.ui_sums.specs.Verdict.{Environment, verdict}
 use Rattle.ui_below.specs.Join.{marked}
 use Rattle.ui_order.specs.Found.{Graph, Found, begun, least_unread, with_imports, found_count}
 use Rattle.ui_order.specs.Order.{Arrangement, cycle, paths, arranged}
-use Rattle.ui_build.specs.Plan.{Text, Refusal, NoFile, Form, Faulty, TooMany, Cycle, Entry, Plan, done, refused, settled, ◌>>=◌, asking, writing}
+use Rattle.ui_build.specs.Plan.{Text, Refusal, NoFile, Faulty, TooMany, Cycle, Entry, Plan, done, refused, settled, ◌>>=◌, asking, writing}
 use Rattle.ui_build.specs.Package.{folder, unit_file, linked_file, find, imports_in, read_form}
 
 -- ---- discovery: the least found path that isn't read yet is found and its imports are added, till none is left
@@ -83,18 +79,8 @@ unfoldable pub reads : List Text → Plan (Unit {0})
 reads [] = done (tt {0})
 reads (path ∷ rest) = asking (ask.Read, linked_file path) (Ok (tt {0})) >>= λ _. reads rest
 
--- the names of an export are names, and each constant has a file, so that it can be written
-abbrev pub is_named : Text × Declaration → Bool
-is_named e = is_name e.0 && is_some_text e.1.file
-
-abbrev pub has_names : Export → Bool
-has_names export = is_path export.path && is_name export.name && list_all is_named (entries export.decls)
-
-abbrev pub or_form : Export → Result Export Refusal
-or_form export = if has_names export then Ok export else Err (Form (folder export.path))
-
 abbrev pub or_fault : Result Export Fault → Result Export Refusal
-or_fault (Ok export) = or_form export
+or_fault (Ok export) = Ok export
 or_fault (Err fault) = Err (Faulty fault)
 
 -- What a package stands for: its sources are found, the linked files of its imports are read, and it is checked against

@@ -150,7 +150,7 @@ pub record BadPackage (refusal : Refusal) (heard : List Hearing) : Type 0 where
 -- Nothing is said here of too many packages and of a cycle of imports.
 abbrev pub RefusedBy : Refusal → List Hearing → Type 0
 RefusedBy (NoFile name) heard = LacksFile name heard
-RefusedBy (Form name) heard = BadSource (Form name) heard ⊎ BadPackage (Form name) heard
+RefusedBy (Form name) heard = BadSource (Form name) heard
 RefusedBy (Faulty fault) heard = BadPackage (Faulty fault) heard
 RefusedBy (TooLong name) heard = BadLinked (TooLong name) heard
 RefusedBy (BadFrame name fault) heard = BadLinked (BadFrame name fault) heard

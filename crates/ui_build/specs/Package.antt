@@ -1,10 +1,11 @@
 -- A package: its folder and files, its sources, and their form.
-use Rattle.std.specs.Prelude.{ℕ, ◌^◌, Bool, ◌&&◌, not, nat_eq, nat_le, List, [], ◌∷◌, ◌++◌, length, filter, Option, Some, None, Result, Ok, Err, codes, if◌then◌else◌}
+use Rattle.std.specs.Prelude.{ℕ, ◌^◌, Bool, ◌&&◌, not, nat_eq, List, [], ◌∷◌, ◌++◌, filter, Option, Some, None, Result, Ok, Err, codes, if◌then◌else◌}
 use Rattle.std.specs.List.{ends_with}
 use Rattle.ui_store.specs.Files.{Files, listing, reading}
 use Rattle.ui_store.specs.declared.fault.StoreFault.{StoreFault}
 use Rattle.ui_store.specs.declared.fault.StoreFault.TheVariants as fault
 use Rattle.ui_store.specs.declared.store.AskKind.TheVariants as ask
+use Rattle.ui_base.specs.Paths.{is_path}
 use Rattle.ui_sums.specs.Form.{Form as SourceForm, form_of, imported}
 use Rattle.ui_build.specs.Plan.{Text, Refusal, NoFile, Form, Plan, done, refused, settled, ◌>>=◌, asking}
 
@@ -77,10 +78,10 @@ abbrev pub or_form : Text → Option SourceForm → Result SourceForm Refusal
 or_form name (Some form) = Ok form
 or_form name None = Err (Form name)
 
--- What a package's sources spell. A package of one file that isn't too long is taken.
+-- What a package's sources spell. A package of a valid path and of one file that isn't too long is taken.
 unfoldable pub form_or : Text → List Source → Result SourceForm Refusal
 form_or path [] = Err (NoFile (folder path))
-form_or path ((name, Some bytes) ∷ []) = if nat_le (length path) 255 then or_form name (form_of path name bytes) else Err (Form name)
+form_or path ((name, Some bytes) ∷ []) = if is_path path then or_form name (form_of path name bytes) else Err (Form name)
 form_or path ((name, None) ∷ []) = Err (Form name)
 form_or path ((name, bytes) ∷ other ∷ others) = Err (Form name)
 

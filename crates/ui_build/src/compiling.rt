@@ -1,5 +1,5 @@
 // A package is compiled into its two files.
-ghost use Rattle.std.specs.Prelude.{◌≡◌, ◌≤◌, [], Some, IfOk, length, map, string_bytes};
+ghost use Rattle.std.specs.Prelude.{◌≡◌, ◌≤◌, true, [], Some, IfOk, length, map, string_bytes};
 ghost use Rattle.std.specs.FinMap.{empty, insert};
 ghost use Rattle.ui_store.specs.Files.{Files};
 ghost use Rattle.ui_consts.specs.Size.{IsSmall};
@@ -7,6 +7,7 @@ ghost use Rattle.ui_build.specs.Plan.{Entry};
 ghost use Rattle.ui_build.specs.Package.{read_form};
 ghost use Rattle.ui_build.specs.Build.{Packages, compile, compile_all, package_limit, write_files};
 ghost use Rattle.ui_build.specs.Loading.{entry_of, linked_as, prepared};
+ghost use Rattle.ui_build.specs.Views.{is_named};
 ghost use Rattle.ui_build.specs.Heard.{Compiles, CompilesAll, Hears, HearsNothing, ReadsForm};
 ghost use Rattle.ui_build.specs.Built.{Compiled, IsInOrder, IsReady, Stands};
 ghost use Rattle.ui_build.specs.Stops.{state, Carries, Does, DoesTold, HasCause};
@@ -32,6 +33,7 @@ fn read_form<S: Store>(alloc: Global, store: &mut S, path: &str) -> Result<Form,
     ensures heard { Hears (λ f. ReadsForm path.now f) (S.heard store.old) (S.heard store.new) result }
     ensures cause { HasCause (S.faults store.old) (S.faults store.new) (S.asked store.new) result }
     ensures own { IfOk result (λ f. f.path ≡ path.now) }
+    ensures named { IfOk result (λ f. is_named f ≡ true) }
 {
     let sources = find(alloc, store, path)?;
     let form = form_in(alloc, path, &sources)?;

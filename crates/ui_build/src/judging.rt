@@ -1,19 +1,16 @@
 // The form of a package's sources, and what it stands for by the linked files of its imports.
 ghost use Rattle.std.specs.Prelude.{◌≡◌, ◌≤◌, true, [], ◌∷◌, IfOk, map, length};
 ghost use Rattle.std.specs.List.{list_all};
-ghost use Rattle.std.specs.FinMap.{entries};
 ghost use Rattle.ui_exports.specs.Linked.{belows};
-ghost use Rattle.ui_exports.specs.Constants.{declaration, declarations_of};
 ghost use Rattle.ui_sums.specs.Form.{imported};
 ghost use Rattle.ui_sums.specs.Verdict.{environment_of, verdict};
-ghost use Rattle.ui_consts.specs.Size.{IsListed, IsSmall, IsSmallExport};
-ghost use Rattle.ui_consts.specs.Size as small;
+ghost use Rattle.ui_consts.specs.Size.{HasNames, IsListed, IsSmall, IsSmallExport};
 ghost use Rattle.ui_below.specs.Claims.{claims};
 ghost use Rattle.ui_below.specs.Join.{joined};
 ghost use Rattle.ui_build.specs.Package.{form_or};
-ghost use Rattle.ui_build.specs.Build.{has_names, is_named, or_fault, package_limit};
+ghost use Rattle.ui_build.specs.Build.{or_fault, package_limit};
 ghost use Rattle.ui_build.specs.Loading.{judgement, or_apart};
-ghost use Rattle.ui_build.specs.Views.{imports_of, is_sound};
+ghost use Rattle.ui_build.specs.Views.{imports_of, is_named, is_sound};
 ghost use Rattle.ui_build.specs.Sources.{source};
 ghost use Rattle.ui_build.specs.Stops.{Settles};
 
@@ -22,10 +19,9 @@ use crate::names::{copy, folder};
 use crate::sources::Source;
 use crate::stop::{Refusal, Stop};
 use std::alloc::Global;
-use std::collections::BTreeMap;
-use ui_base::{is_name, is_path};
+use ui_base::is_path;
 use ui_below::{JoinFault, join, list_of_paths};
-use ui_exports::{Below, Constant, Linked, Package};
+use ui_exports::{Below, Linked, Package};
 use ui_order::PACKAGE_LIMIT;
 use ui_sums::{Form, check};
 use ui_types::CheckFault;
@@ -50,7 +46,7 @@ fn form_of_one(alloc: Global, path: &str, only: &Source) -> Result<Form, Stop>
     ensures own { IfOk result (λ f. f.path ≡ path.now) }
 {
     if let Some(bytes) = &only.bytes {
-        if path.len() <= 255 {
+        if is_path(path.as_bytes()) {
             if let Some(form) = ui_sums::read_form(alloc, path, only.name.as_str(), bytes)? {
                 return Ok(form);
             }
@@ -85,44 +81,17 @@ fn below_in(alloc: Global, path: &str, imports: &Imports) -> Result<Vec<Below>, 
     }
 }
 
-// Whether a constant has a name and a file.
-fn is_named(name: &[u8], constant: &Constant) -> bool
-    ensures { result ≡ is_named (name.now, declaration constant.now) }
-{
-    is_name(name) && !constant.pos.file.bytes().is_empty()
-}
-
-// Whether each constant has a name and a file.
-fn are_named(constants: &BTreeMap<Vec<u8>, Constant>) -> bool
-    ensures { result ≡ list_all is_named (entries (declarations_of constants.now.entries)) }
-{
-    for (name, constant) in constants {
-        if !is_named(name, constant) {
-            return false;
-        }
-    }
-    true
-}
-
-// Whether the names of an export are names, so that it can be written.
-fn has_names(export: &Package) -> bool
-    ensures { result ≡ has_names export.now }
-{
-    is_path(export.path()) && is_name(export.name()) && are_named(export.constants())
-}
-
 // What a package exports, or its first fault.
-fn export_of(alloc: Global, path: &str, form: &Form, files: &[Linked]) -> Result<Package, Stop>
-    requires own { form.now.path ≡ path.now }
+fn export_of(alloc: Global, form: &Form, files: &[Linked]) -> Result<Package, Stop>
+    requires named { is_named form.now ≡ true }
     requires paths { map (λ l. l.export.path) files.now ≡ imported form.now }
     ensures settled { Settles (λ p. p) (or_fault (verdict (environment_of files.now) form.now)) result }
-    ensures own { IfOk result (λ p. p.path ≡ path.now) }
-    ensures named { IfOk result (λ p. has_names p ≡ true) }
+    ensures own { IfOk result (λ p. p.path ≡ form.now.path) }
+    ensures named { IfOk result HasNames }
     ensures small { IfOk result IsSmallExport }
 {
     match check(alloc, form, files) {
-        Ok(package) if has_names(&package) => Ok(package),
-        Ok(package) => Err(Stop::Refused(Refusal::Form(folder(alloc, path)?))),
+        Ok(package) => Ok(package),
         Err(CheckFault::Fault(fault)) => Err(Stop::Refused(Refusal::Faulty(fault))),
         Err(CheckFault::NoMemory) => Err(Stop::NoMemory),
     }
@@ -131,6 +100,7 @@ fn export_of(alloc: Global, path: &str, form: &Form, files: &[Linked]) -> Result
 /// What a package of this form stands for, by the linked files of its imports.
 pub fn judge(alloc: Global, path: &str, form: &Form, imports: &Imports) -> Result<Linked, Stop>
     requires own { form.now.path ≡ path.now }
+    requires named { is_named form.now ≡ true }
     requires paths { map (λ l. l.export.path) imports.now.files.items ≡ imported form.now }
     requires paired { length imports.now.files.items ≡ length imports.now.prints.items }
     requires sound { list_all (λ c. is_sound c.path c.print) (claims imports.now.files.items imports.now.prints.items) ≡ true }
@@ -140,6 +110,6 @@ pub fn judge(alloc: Global, path: &str, form: &Form, imports: &Imports) -> Resul
 {
     list_of_paths();
     let below = below_in(alloc, path, imports)?;
-    let package = export_of(alloc, path, form, &imports.files)?;
+    let package = export_of(alloc, form, &imports.files)?;
     Ok(Linked { package, below })
 }

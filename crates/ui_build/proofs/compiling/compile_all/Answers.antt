@@ -1,4 +1,4 @@
-use Rattle.std.proofs.Common.{◌∙◌, ◌≡◌, ap, sym, subst, arith, map, string_bytes, Option}
+use Rattle.std.proofs.Common.{◌∙◌, ap, sym, subst, arith, map, string_bytes, Option}
 use Rattle.std.proofs.lemmas.List.{take_all}
 use Rattle.std.proofs.lemmas.Result.{err_from_is_err_and}
 use Rattle.ui_store.specs.Files.{Files}

@@ -1,4 +1,4 @@
-use Rattle.std.proofs.Common.{◌∙◌, sym, subst, List, [], Ok, Err, true, ◌≡◌, string_bytes, map}
+use Rattle.std.proofs.Common.{◌∙◌, sym, subst, List, [], Ok, Err, true, ◌≡◌}
 use Rattle.std.specs.List.{AllByRecursion}
 use Rattle.std.proofs.lemmas.Result.{err_from_is_err_and}
 use Rattle.ui_base.specs.Paths.{is_path}

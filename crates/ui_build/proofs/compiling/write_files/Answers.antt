@@ -1,8 +1,8 @@
-use Rattle.std.proofs.Common.{◌∙◌, ap, sym, subst, List, ℕ, Ok, Err, arith}
+use Rattle.std.proofs.Common.{sym, subst, List, ℕ, Ok, Err, arith}
 use Rattle.std.proofs.lemmas.Grind.{common_steps}
 use Rattle.std.proofs.lemmas.Result.{err_from_is_err_and}
 use Rattle.ui_build.specs.Plan.{writing}
-use Rattle.ui_build.specs.Package.{unit_file, linked_file, file_limit}
+use Rattle.ui_build.specs.Package.{unit_file, linked_file}
 use Rattle.ui_build.specs.Build.{write_files}
 use Rattle.ui_build.specs.Stops.{state, IsFileOf}
 use Rattle.ui_build.proofs.Steps.{does_then, does_stop, stops_none}

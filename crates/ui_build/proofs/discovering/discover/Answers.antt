@@ -1,4 +1,4 @@
-use Rattle.std.proofs.Common.{◌≡◌, ◌∙◌, ◌-◌, ◌+◌, ap, sym, subst, refl, suc, [], ℕ, arith, option_map, string_bytes, Some}
+use Rattle.std.proofs.Common.{◌≡◌, ◌∙◌, ◌-◌, ◌+◌, ap, sym, subst, refl, suc, [], arith, option_map, string_bytes, Some}
 use Rattle.std.proofs.lemmas.Result.{err_from_is_err_and}
 use Rattle.ui_store.specs.Told.{more_none}
 use Rattle.ui_order.specs.Found.{Found, IsFound, begun, least_unread}
@@ -7,7 +7,7 @@ use Rattle.ui_build.specs.Heard.{Anything}
 use Rattle.ui_build.specs.Stops.{state}
 use Rattle.ui_build.specs.declared.stop.Refusal.TheVariants as told
 use Rattle.ui_build.specs.declared.stop.Stop.TheVariants as stop
-use Rattle.ui_build.proofs.Hearing.{heard_none, heard_stop, heard_then, heard_then_none, heard_then_stop, heard_settled, heard_value}
+use Rattle.ui_build.proofs.Hearing.{heard_none, heard_then, heard_then_none, heard_then_stop, heard_settled, heard_value}
 use Rattle.ui_build.proofs.Steps.{told_none}
 use Rattle.ui_build.proofs.Finding.{finds_first, finds_next, finds_stop, finds_none, finds_all, finds_over, finds_turns, left_at, left_next}
 use Rattle.ui_build.proofs.discovering.discover.Goals as goal

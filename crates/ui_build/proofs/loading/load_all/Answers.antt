@@ -1,8 +1,7 @@
-use Rattle.std.proofs.Common.{refl, ◌∙◌, ◌+◌, ◌++◌, ap, sym, subst, arith, string_bytes, map, List, [], ◌∷◌, ◌≡◌, ℕ, length, true}
+use Rattle.std.proofs.Common.{refl, ◌∙◌, ◌+◌, ◌++◌, ap, arith, string_bytes, map, [], ◌∷◌, ◌≡◌, true}
 use Rattle.std.proofs.lemmas.Result.{err_from_is_err_and}
 use Rattle.ui_base.specs.Paths.{is_path}
 use Rattle.std.proofs.lemmas.List.{take_all}
-use Rattle.ui_build.specs.Plan.{Text}
 use Rattle.ui_build.specs.Heard.{LoadsImports}
 use Rattle.ui_build.specs.Views.{loaded_of, imports_of}
 use Rattle.ui_build.specs.declared.loading.Imports.{Imports}
