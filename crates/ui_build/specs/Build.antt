@@ -79,6 +79,7 @@ unfoldable pub reads : List Text → Plan (Unit {0})
 reads [] = done (tt {0})
 reads (path ∷ rest) = asking (ask.Read, linked_file path) (Ok (tt {0})) >>= λ _. reads rest
 
+-- what a package exports, or its first fault as a refusal
 abbrev pub or_fault : Result Export Fault → Result Export Refusal
 or_fault (Ok export) = Ok export
 or_fault (Err fault) = Err (Faulty fault)
