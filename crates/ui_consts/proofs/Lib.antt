@@ -7,3 +7,4 @@ mod NumberingLemmas
 mod GrammarLemmas
 mod NumbersLemmas
 mod FileLemmas
+mod Samples
