@@ -1,6 +1,6 @@
 -- From the tables to what is arranged.
-use Rattle.std.specs.Prelude.{◌≡◌, ℕ, ◌<◌, Bool, true, false, ◌&&◌, T, nat_eq, List, [], ◌∷◌, map, length, get_or, Option, Some, None, option_map, refl}
-use Rattle.std.proofs.Common.{◌∙◌, ap, sym, subst, arith}
+use Rattle.std.specs.Prelude.{◌≡◌, ℕ, ◌<◌, Bool, true, false, ◌&&◌, T, nat_eq, List, [], ◌∷◌, map, length, Some, None, refl}
+use Rattle.std.proofs.Common.{◌∙◌, ap, sym, subst}
 use Rattle.std.specs.declared.cmp.Ordering.{Ordering}
 use Rattle.std.specs.declared.cmp.Ordering.TheVariants.{Less, Equal, Greater}
 use Rattle.std.specs.Ordering.{nat_cmp, is_lt}
@@ -14,13 +14,12 @@ use Rattle.ui_order.specs.Steps.{has}
 use Rattle.ui_order.specs.StepLaws.{split}
 use Rattle.ui_order.specs.OrderFrom.{order_before, order_from-IsOrder}
 use Rattle.ui_order.specs.Found.{Text, Graph}
-use Rattle.ui_order.specs.Order.{build_order, least_on_cycle, arranged, cycle_or, cycle, paths}
-use Rattle.ui_order.specs.Numbers.{Links, linked, numbers, number_order, AreLinked, IsNumberOrder, IsNumberOnCycle}
+use Rattle.ui_order.specs.Order.{build_order, arranged, cycle_or, cycle, paths}
+use Rattle.ui_order.specs.Numbers.{Links, linked, numbers, number_order, AreLinked}
 use Rattle.ui_order.specs.Numbered.{path_at, AreLinksOf}
-use Rattle.ui_order.specs.Search.{IsFirstOnCycle}
+use Rattle.ui_order.specs.Components.{IsFirstOnCycle}
 use Rattle.ui_order.proofs.NumberLemmas.{numbers-has}
-use Rattle.ui_order.proofs.SearchLemmas.{seen_low}
-use Rattle.ui_order.proofs.BridgeLemmas.{all_linked, links_size, build_order-numbers, least_on_cycle-numbers, order_safe}
+use Rattle.ui_order.proofs.BridgeLemmas.{all_linked, links_size, build_order-numbers, least_on_cycle-numbers}
 
 left_of : (a b : Bool) → T (a && b) → T a
 left_of true b h = tt
@@ -63,13 +62,6 @@ module _ (graph : Graph) (paths' : List Text) (named : paths' ≡ keys graph) (l
 
   pub count_named : length links ≡ length paths'
   count_named = links_size graph paths' paths' links a
-
-  pub safe_slice : (slice : Links) (order : List ℕ) (safe seen : List Bool) → slice ≡ links → order ≡ number_order links → seen ≡ safe → length safe ≡ length links
-      → ((k : ℕ) → k < length links → get_or safe k false ≡ has nat_eq order k) → (k : ℕ) → get_or seen k false ≡ true → IsNumberOnCycle slice k → ⊥
-  safe_slice slice order safe seen e o s size taken k h l =
-      let h' : get_or safe k false ≡ true = ap (λ xs. get_or xs k false) (sym s) ∙ h in
-      let low : k < length links = let b = seen_low safe k h' in omega arith in
-      order_safe links k (ap (λ xs. has nat_eq xs k) (sym o) ∙ sym (taken k low) ∙ h') (subst (λ xs. IsNumberOnCycle xs k) e l)
 
   pub cycle_is : (slice : Links) (first : ℕ) (path : Text) → slice ≡ links → IsFirstOnCycle slice (Some first) → path ≡ path_at paths' first → cycle path ≡ arranged graph
   unfolding arranged

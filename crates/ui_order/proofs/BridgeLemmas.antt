@@ -1,30 +1,27 @@
 -- What is said of numbers is said of their paths.
-use Rattle.std.specs.Prelude.{◌≡◌, ◌⊎◌, ℕ, zero, suc, ◌+◌, ◌<◌, ◌≤◌, Bool, true, false, cond, ◌&&◌, ◌||◌, not, nat_eq, List, [], ◌∷◌, ◌++◌, map, length, get_or, Option, Some, None, find, option_map, bytes_eq, Vec, refl}
+use Rattle.std.specs.Prelude.{◌≡◌, ℕ, zero, suc, ◌<◌, Bool, true, false, cond, ◌&&◌, ◌||◌, not, nat_eq, List, [], ◌∷◌, ◌++◌, map, length, Option, Some, None, find, option_map, bytes_eq, refl}
 use Rattle.std.proofs.Common.{◌∙◌, ap, sym, subst, arith, inl, inr}
-use Rattle.std.specs.declared.alloc.Global.{Global}
-use Rattle.std.specs.declared.cmp.Ordering.TheVariants.{Less}
 use Rattle.std.specs.Ordering.{nat_cmp, is_eq}
-use Rattle.std.specs.List.{list_any, list_all, range_with_len}
+use Rattle.std.specs.List.{list_all}
 use Rattle.std.specs.List.Sorted.{IsStrictlySortedBy}
 use Rattle.std.specs.Cmp.Lexicographic.{slice_cmp}
-use Rattle.std.specs.FinMap.{keys, len}
+use Rattle.std.specs.FinMap.{keys}
 use Rattle.std.proofs.lemmas.List.{map-append}
-use Rattle.std.proofs.lemmas.List.FromFn.{fill_by_all, length-range_with_len}
+use Rattle.std.proofs.lemmas.List.FromFn.{fill_by_all}
 use Rattle.std.proofs.lemmas.Map.Keys.{Less-from_sorted}
 use Rattle.std.proofs.lemmas.Map.Text.{is_eq-slice_cmp}
 use Rattle.std.proofs.lemmas.Slice.Eq.{bytes_eq-Decides}
-use Rattle.std.proofs.lemmas.Bool.{or_cases, or_left, or_right, cases_order, cases_eq, false≢true, true≢false, false_from_ne_true}
+use Rattle.std.proofs.lemmas.Bool.{or_cases, or_right, cases_order, false≢true, true≢false, false_from_ne_true}
 use Rattle.std.proofs.lemmas.Bool.Decides.{Decides-eqb}
 use Rattle.ui_order.specs.Steps.{has, and_then, is_ready, order_from, Leads, direct, onward}
 use Rattle.ui_order.specs.StepLaws.{has-self, find-passes, none_found}
-use Rattle.ui_order.specs.OrderFrom.{order_acyclic, order_from-IsOrder}
 use Rattle.ui_order.specs.OrderLaws.{len-keys, computes_cycles}
 use Rattle.ui_order.specs.Found.{Text, Graph, imports_of}
-use Rattle.ui_order.specs.Order.{build_order, on_cycle, least_on_cycle, IsOnCycle}
-use Rattle.ui_order.specs.Numbers.{Links, linked, numbers, number_order, AreLinked, IsNumberOnCycle, IsNumberOrder}
+use Rattle.ui_order.specs.Order.{build_order, on_cycle, least_on_cycle}
+use Rattle.ui_order.specs.Numbers.{Links, linked, numbers, number_order, AreLinked, IsNumberOnCycle}
 use Rattle.ui_order.specs.Numbered.{path_at, AreLinksOf}
-use Rattle.ui_order.specs.Search.{IsFirstOnCycle}
-use Rattle.ui_order.proofs.NumberLemmas.{has-get_or, numbers-has, has-numbers, linked-past}
+use Rattle.ui_order.specs.Components.{IsFirstOnCycle}
+use Rattle.ui_order.proofs.NumberLemmas.{numbers-has, linked-past}
 use Rattle.ui_order.proofs.PlanLemmas.{find-first, has_one}
 
 -- the links of each place
@@ -203,8 +200,3 @@ module _ (graph : Graph) (links : Links) (sorted : IsStrictlySortedBy (slice_cmp
   pub least_on_cycle-numbers : (r : Option ℕ) → IsFirstOnCycle links r → least_on_cycle graph ≡ option_map (path_at (keys graph)) r
   unfolding least_on_cycle at
   least_on_cycle-numbers r f = ap (find (on_cycle graph)) keys_are ∙ find_in (on_cycle graph) (λ i. on_cycle graph (at i)) (numbers links) (λ i h. refl) ∙ ap (option_map at) (first r f)
-
--- no number of the order is on a cycle
-pub order_safe : (links : Links) (k : ℕ) → has nat_eq (number_order links) k ≡ true → IsNumberOnCycle links k → ⊥
-unfolding number_order
-order_safe links k h l = true≢false (sym h ∙ order_acyclic nat_eq Decides-eqb (linked links) (numbers links) (number_order links) k (order_from-IsOrder nat_eq Decides-eqb (linked links) (numbers links) (length links) [] tt) l)

@@ -2,7 +2,10 @@ pub mod TableLemmas
 pub mod NumberLemmas
 pub mod PlanLemmas
 pub mod BuildLemmas
-pub mod SearchLemmas
+pub mod RisingLemmas
+pub mod WalkLemmas
+pub mod CloseLemmas
+pub mod StepLemmas
 pub mod NameLemmas
 pub mod BridgeLemmas
 pub mod ArrangeLemmas

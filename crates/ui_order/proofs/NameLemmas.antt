@@ -1,21 +1,18 @@
 -- Paths and their numbers in the tables of the code.
-use Rattle.std.specs.Prelude.{◌≡◌, ℕ, zero, suc, ◌+◌, ◌<◌, Bool, true, false, cond, ◌||◌, nat_eq, List, [], ◌∷◌, ◌++◌, map, length, get_or, take, Option, Some, None, find, slice_get, option_map, unwrap_or, is_some, Vec, String, string_bytes, string_cmp, string_eq, bytes_eq, refl}
+use Rattle.std.specs.Prelude.{◌≡◌, ℕ, zero, suc, ◌+◌, ◌<◌, Bool, true, false, cond, ◌||◌, nat_eq, List, [], ◌∷◌, ◌++◌, map, length, get_or, take, Some, None, find, slice_get, unwrap_or, Vec, String, string_bytes, string_cmp, string_eq, bytes_eq, refl}
 use Rattle.std.proofs.Common.{◌∙◌, ap, sym, subst, arith, append_assoc}
 use Rattle.std.specs.declared.alloc.Global.{Global}
 use Rattle.std.specs.declared.cmp.Ordering.TheVariants.{Less}
 use Rattle.std.specs.Ordering.{nat_cmp, is_eq}
 use Rattle.std.specs.List.{AllByRecursion, list_any}
 use Rattle.std.specs.List.Sorted.{IsStrictlySortedBy}
-use Rattle.std.specs.Map.{lookup}
-use Rattle.std.specs.BTreeMap.{BTreeMap, is_at}
-use Rattle.std.specs.BTreeMap as tree
-use Rattle.std.specs.FinMap.{get, keys, get-from_entries}
+use Rattle.std.specs.FinMap.{keys, get-from_entries}
 use Rattle.std.specs.FinMap.Entries.{find as find_entry}
 use Rattle.std.specs.Cmp.Lexicographic.{slice_cmp, nat_list_cmp_total}
 use Rattle.std.proofs.lemmas.List.{take_more, map-append}
 use Rattle.std.proofs.lemmas.Map.Text.{is_eq-slice_cmp}
 use Rattle.std.proofs.lemmas.Slice.Eq.{bytes_eq-Decides}
-use Rattle.std.proofs.lemmas.Bool.{or_cases, or_parts, or_from, or_left, or_right, false≢true, true≢false, false_from_ne_true}
+use Rattle.std.proofs.lemmas.Bool.{or_parts, or_from, or_left, or_right, true≢false, false_from_ne_true}
 use Rattle.indexmap.specs.IndexSet.{insert_key}
 use Rattle.ui_order.specs.Steps.{has}
 use Rattle.ui_order.specs.Found.{Text, Graph, IsClosed, imports_of}

@@ -9,5 +9,5 @@ pub mod Laws
 pub mod FoundLaws
 pub mod OrderLaws
 pub mod Numbers
-pub mod Search
+pub mod Components
 pub mod Numbered

@@ -60,8 +60,8 @@ pub(crate) fn arrange(
 {
     let paths = numbered(alloc, read)?;
     let links = links_of(alloc, &paths, read)?;
-    let (order, safe) = in_order(alloc, links.as_slice())?;
-    match first_on_cycle(alloc, links.as_slice(), safe.as_slice())? {
+    let order = in_order(alloc, links.as_slice())?;
+    match first_on_cycle(alloc, links.as_slice())? {
         Some(first) => Ok(Order::Cycle(path_of(&paths, first)?)),
         None => Ok(Order::Paths(paths_of(alloc, &paths, order.as_slice())?)),
     }

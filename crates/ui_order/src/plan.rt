@@ -130,16 +130,11 @@ fn take_least(alloc: Global, plan: &mut Plan) -> Option<(usize, Vec<usize>)>
     Some((i, woken))
 }
 
-/// The order of numbers: repeatedly the least one whose links are all taken; and which numbers it has. Its time is
-/// linear in the links, but for the search tree of the ready numbers.
-pub(crate) fn in_order(
-    alloc: Global,
-    links: &[Vec<usize>],
-) -> Result<(Vec<usize>, Vec<bool>), NoMemory>
+/// The order of numbers: repeatedly the least one whose links are all taken. Its time is linear in the links, but for
+/// the search tree of the ready numbers.
+pub(crate) fn in_order(alloc: Global, links: &[Vec<usize>]) -> Result<Vec<usize>, NoMemory>
     requires { AreLinked links.now }
-    ensures order { IfOk result (λ r. r.0.items ≡ number_order links.now) }
-    ensures size { IfOk result (λ r. length r.1.items ≡ length links.now) }
-    ensures taken { IfOk result (λ r. (k : ℕ) → k < length links.now → get_or r.1.items k false ≡ has nat_eq r.0.items k) }
+    ensures { IfOk result (λ order. order.items ≡ number_order links.now) }
 {
     let mut plan = first_plan(alloc, links)?;
     look_at_all(&mut plan, links)?;
@@ -148,11 +143,5 @@ pub(crate) fn in_order(
         order.push(i)?;
         look_at(&mut plan, links, woken.as_slice())?;
     }
-    let Plan {
-        taken,
-        at: _,
-        waiting: _,
-        ready: _,
-    } = plan;
-    Ok((order, taken))
+    Ok(order)
 }

@@ -114,6 +114,14 @@ fn cycles(rt: HostRuntime) -> Result<(), Fail> {
         ("b z\nz b a\na y\ny w\nw y", "b", "cycle b"),
         ("r m\nm p a\np m\na x\nx y\ny x", "r", "cycle m"),
         ("r q k\nq q\nk", "r", "cycle q"),
+        // a chain a, b, c between two cycles
+        ("r x\nx y\ny x a\na b\nb c\nc p\np q\nq p", "r", "cycle p"),
+        // an import of itself inside a chain
+        ("r d\nd b\nb c\nc c a\na", "r", "cycle c"),
+        // the cycle with the least path is found last
+        ("a m t w\nm n\nn m\nt u\nu v\nv t\nw d\nd w", "a", "cycle d"),
+        // two cycles through one package, and one into it
+        ("r f\nf g k\ng h f\nh g\nk e\ne f", "r", "cycle e"),
     ];
     for (text, root, wanted) in cases {
         let answer = ordered(alloc, text, root)?;

@@ -4,22 +4,15 @@ use Rattle.ui_order.specs.Steps.{has}
 use Rattle.ui_order.specs.Tables.{graph_of, texts}
 use Rattle.ui_order.specs.Numbers.{number_order}
 use Rattle.ui_order.specs.Numbered.{names, path_at}
-use Rattle.ui_order.specs.Search.{IsFirstOnCycle}
-use Rattle.ui_order.proofs.ArrangeLemmas.{linked_slice, safe_slice, count_named, order_small, cycle_is, paths_are}
+use Rattle.ui_order.specs.Components.{IsFirstOnCycle}
+use Rattle.ui_order.proofs.ArrangeLemmas.{linked_slice, count_named, order_small, cycle_is, paths_are}
 use Rattle.ui_order.proofs.order.arrange.Goals as goal
 
 pub in_order-requires : goal.in_order-requires
 in_order-requires c = linked_slice (graph_of c.args.read.now.entries) (names c.in_ok-paths.paths) c.in_ok-paths.ensures c.in_ok-links.links.items c.in_ok-links.ensures c.as_slice.result.now c.as_slice.ensures.value
 
-pub first_on_cycle-requires-clause-links : goal.first_on_cycle-requires-clause-links
-first_on_cycle-requires-clause-links c = linked_slice (graph_of c.args.read.now.entries) (names c.in_ok-paths.paths) c.in_ok-paths.ensures c.in_ok-links.links.items c.in_ok-links.ensures c.as_slice-2.result.now c.as_slice-2.ensures.value
-
-pub first_on_cycle-requires-clause-safe : goal.first_on_cycle-requires-clause-safe
-first_on_cycle-requires-clause-safe c =
-    let same = c.as_slice.ensures.value in
-    safe_slice (graph_of c.args.read.now.entries) (names c.in_ok-paths.paths) c.in_ok-paths.ensures c.in_ok-links.links.items c.in_ok-links.ensures c.as_slice-2.result.now c.in_ok-order.order.items c.in_ok-order.safe.items c.as_slice-3.result.now
-    c.as_slice-2.ensures.value (c.in_ok-order.ensures.order ∙ ap number_order same) c.as_slice-3.ensures.value (c.in_ok-order.ensures.size ∙ ap length same)
-    (λ k l. c.in_ok-order.ensures.taken k (subst (λ xs. k < length xs) (sym same) l))
+pub first_on_cycle-requires : goal.first_on_cycle-requires
+first_on_cycle-requires c = linked_slice (graph_of c.args.read.now.entries) (names c.in_ok-paths.paths) c.in_ok-paths.ensures c.in_ok-links.links.items c.in_ok-links.ensures c.as_slice-2.result.now c.as_slice-2.ensures.value
 
 pub path_of-requires : goal.path_of-requires
 path_of-requires c =
@@ -36,7 +29,7 @@ returns-in-Some c =
 
 pub paths_of-requires : goal.paths_of-requires
 paths_of-requires c = λ k h.
-    let low : k < length c.as_slice.result.now = order_small c.as_slice.result.now k (ap (λ xs. has nat_eq xs k) (sym (c.as_slice-in-None.ensures.value ∙ c.in_ok-order.ensures.order)) ∙ h) in
+    let low : k < length c.as_slice.result.now = order_small c.as_slice.result.now k (ap (λ xs. has nat_eq xs k) (sym (c.as_slice-in-None.ensures.value ∙ c.in_ok-order.ensures)) ∙ h) in
     let count = count_named (graph_of c.args.read.now.entries) (names c.in_ok-paths.paths) c.in_ok-paths.ensures c.in_ok-links.links.items c.in_ok-links.ensures in
     let size = ap length c.as_slice.ensures.value in
     omega arith
@@ -44,5 +37,5 @@ paths_of-requires c = λ k h.
 pub returns : goal.returns
 returns c =
     paths_are (graph_of c.args.read.now.entries) (names c.in_ok-paths.paths) c.in_ok-paths.ensures c.in_ok-links.links.items c.in_ok-links.ensures c.as_slice-2.result.now c.in_ok-order.order.items (texts c.in_ok-paths_of-in-None.field-0)
-    c.as_slice-2.ensures.value (subst (λ r. IsFirstOnCycle c.as_slice-2.result.now r) c.in-None.is c.in_ok-first.ensures) (c.in_ok-order.ensures.order ∙ ap number_order c.as_slice.ensures.value)
+    c.as_slice-2.ensures.value (subst (λ r. IsFirstOnCycle c.as_slice-2.result.now r) c.in-None.is c.in_ok-first.ensures) (c.in_ok-order.ensures ∙ ap number_order c.as_slice.ensures.value)
     (c.in_ok-paths_of-in-None.ensures ∙ ap (map (path_at (names c.in_ok-paths.paths))) c.as_slice-in-None.ensures.value)

@@ -1,5 +1,5 @@
-use Rattle.std.specs.Prelude.{[], ◌<◌, length, get_or, false}
-use Rattle.std.proofs.Common.{◌∙◌, sym, ap, subst}
+use Rattle.std.specs.Prelude.{[], ◌<◌}
+use Rattle.std.proofs.Common.{sym, subst}
 use Rattle.ui_order.specs.Numbers.{IsPlan, IsNumberOrder, Builds, untaken}
 use Rattle.ui_order.proofs.BuildLemmas.{turn_smaller, ordered_more, builds_first, builds_more, builds_whole}
 use Rattle.ui_order.proofs.plan.in_order.Goals as goal
@@ -38,20 +38,8 @@ loop-i-preserved c =
       builds = subst (λ xs. Builds links xs) pushed (builds_more links old c.in-Some.i turn.next at.builds);
     }
 
-pub returns-clause-order : goal.returns-clause-order
-returns-clause-order c =
+pub returns : goal.returns
+returns c =
     let at = c.loop-i.invariant in
     let e = c.in_default.ensures c.args.links.now c.loop-i.order.items at.sized at.ordered at.planned in
     builds_whole c.args.links.now c.loop-i.order.items e.0 at.builds
-
-pub returns-clause-size : goal.returns-clause-size
-returns-clause-size c =
-    let at = c.loop-i.invariant in
-    let e = c.in_default.ensures c.args.links.now c.loop-i.order.items at.sized at.ordered at.planned in
-    ap (λ v. length v.items) e.1 ∙ at.sized.taken_size
-
-pub returns-clause-taken : goal.returns-clause-taken
-returns-clause-taken c = λ k l.
-    let at = c.loop-i.invariant in
-    let e = c.in_default.ensures c.args.links.now c.loop-i.order.items at.sized at.ordered at.planned in
-    ap (λ v. get_or v.items k false) e.1 ∙ at.planned.marks k l
