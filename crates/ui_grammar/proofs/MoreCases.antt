@@ -92,9 +92,9 @@ file_has_tree = record {
 
 -- ---- expressions before types
 
--- func(A)(B) is a conversion of B too
-pub signature_is_expression : is_expression (func (at 1) (group_and [] (type_name 6 (codes "A")) groups_end) (given_type (listed (at 8) (group_and [] (type_name 9 (codes "B")) groups_end)))) ≡ true
-signature_is_expression = refl
+-- func(A)(B) is a type alone, with the result B
+pub signature_is_none : is_expression (func (at 1) (group_and [] (type_name 6 (codes "A")) groups_end) (given_type (listed (at 8) (group_and [] (type_name 9 (codes "B")) groups_end)))) ≡ false
+signature_is_none = refl
 
 pub slice_is_none : is_expression (slice (at 1) (type_name 3 (codes "T"))) ≡ false
 slice_is_none = refl

@@ -1,4 +1,4 @@
--- `func(A)(a *b)`: a func type with a named result, and the conversion of a product. As an argument it is the conversion.
+-- `func(A)(a *b)`: a func type with a named result. Parentheses behind a signature are its results, so it is no conversion.
 use Rattle.std.proofs.Common.{◌≡◌, ℕ, true, false, List, [], ◌∷◌, refl, inl, codes, lit≤, lit<}
 use Rattle.std.specs.Prelude.{None}
 use Rattle.ui_base.specs.declared.value.Spot.{Spot}
@@ -8,8 +8,7 @@ use Rattle.ui_scan.specs.declared.kind.TokenKind.TheVariants as k
 use Rattle.ui_tree.specs.declared.part.Placed.{Placed}
 use Rattle.ui_tree.specs.Tree.{TypeTree, named, parenthesized, pointer, slice, func, listed, no_args, groups_end, group_and, no_type, given_type, Tree, name, convert, binary, type_arg}
 use Rattle.ui_grammar.specs.Word.{Word, ident, mark}
-use Rattle.ui_grammar.specs.Both.{one_operand}
-use Rattle.ui_grammar.specs.Fits.{argument, Fits}
+use Rattle.ui_grammar.specs.Fits.{argument, plain, Fits}
 use Rattle.ui_grammar.specs.Parse.{HasExpr, depth_limit}
 
 abbrev at : ℕ → Spot
@@ -33,33 +32,20 @@ as_type = type_arg (func (at 1) (group_and [] (plain_name 6 (codes "A")) groups_
 abbrev as_conversion : Tree
 as_conversion = convert (at 1) (func (at 1) (group_and [] (plain_name 6 (codes "A")) groups_end) no_type) (binary (at 9) Times (name (placed 9 (codes "a"))) (name (placed 12 (codes "b"))))
 
-pub is_a_conversion : HasExpr argument depth_limit both_words as_conversion
-is_a_conversion = record {
+pub is_a_type : HasExpr argument depth_limit both_words as_type
+is_a_type = record {
   spells = (
     _,
     _,
     _,
     refl,
-    (_, _, _, refl, record { spot = at 5; is = refl }, (_, _, refl, (_, _, refl, refl, refl), inl (record { spot = at 7; is = refl })), refl),
-    record { spot = at 8; is = refl },
-    (_, _, refl, refl, record { spot = at 11; is = refl }, refl),
-    inl (record { spot = at 13; is = refl }),
+    record { spot = at 5; is = refl },
+    (_, _, refl, (_, _, refl, refl, refl), inl (record { spot = at 7; is = refl })),
+    (_, refl, (_, _, (_, refl, refl), (_, refl, (_, _, refl, refl, refl)), inl (record { spot = at 13; is = refl }))),
   );
-  fits = (refl, refl, (refl, refl, ((refl, tt), tt), tt), (lit≤ tt, lit< tt, tt, tt));
+  fits = (refl, refl, (refl, refl, ((refl, tt), tt), (refl, refl, ((refl, (refl, tt)), tt))));
   shallow = lit≤ tt;
 }
 
-pub is_no_type : Fits as_type argument → ⊥
-is_no_type h = let both : true ≡ false = h.1 in absurd cc
-
--- a (b), as a result: a call of a
-pub named_parentheses_are_a_call : one_operand (group_and (placed 1 (codes "a") ∷ []) (parenthesized (at 3) (plain_name 4 (codes "b"))) groups_end) ≡ true
-named_parentheses_are_a_call = refl
-
--- a b, as a result: a name and its type alone
-pub named_is_no_operand : one_operand (group_and (placed 1 (codes "a") ∷ []) (plain_name 3 (codes "b")) groups_end) ≡ false
-named_is_no_operand = refl
-
--- a *[]b: no product, since `[]b` is no expression
-pub pointer_to_slice_is_no_operand : one_operand (group_and (placed 1 (codes "a") ∷ []) (pointer (at 3) (slice (at 4) (plain_name 6 (codes "b")))) groups_end) ≡ false
-pointer_to_slice_is_no_operand = refl
+pub is_no_conversion : Fits as_conversion plain → ⊥
+is_no_conversion h = let both : true ≡ false = h.2 in absurd cc

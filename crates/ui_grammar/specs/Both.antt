@@ -15,67 +15,62 @@ abbrev pub one_name : List Placed → Bool
 one_name (n ∷ []) = true
 one_name _ = false
 
+-- A name is, with type arguments too, and what is made of such a type by parentheses or by `*`.
+abbrev pub is_expression : TypeTree → Bool
+is_expression (named n m vs) = true
+is_expression (parenthesized s t) = is_expression t
+is_expression (pointer s t) = is_expression t
+is_expression (slice s t) = false
+is_expression (array s e t) = false
+is_expression (counted s t) = false
+is_expression (mapping s k t) = false
+is_expression (func s gs r) = false
+is_expression (listed s gs) = false
+is_expression (struct s gs) = false
+is_expression (interface s us) = false
+is_expression (method n gs r) = false
+is_expression (union s us) = false
+is_expression (tilde s t) = false
+
+-- Behind a name, the text of this type goes on with an expression: `n *T`, `n (T)`, `n [e] (T)`.
+abbrev pub continues : TypeTree → Bool
+continues (named n m vs) = false
+continues (parenthesized s t) = true
+continues (pointer s t) = is_expression t
+continues (slice s t) = false
+continues (array s e t) = continues t
+continues (counted s t) = false
+continues (mapping s k t) = false
+continues (func s gs r) = false
+continues (listed s gs) = false
+continues (struct s gs) = false
+continues (interface s us) = false
+continues (method n gs r) = false
+continues (union s us) = false
+continues (tilde s t) = false
+
+-- The type ends with a signature without results: parentheses behind it would be its results. Go specification,
+-- "Conversions": `func()(x)` is the signature `func() x`, and `(func())(x)` a conversion.
 abbrev mutual
-  -- A name is, with type arguments too, and what is made of such a type by parentheses or by `*`. Any other type is, where it
-  -- ends as a conversion does: in `func(A)(B)` the result may be an operand.
-  pub is_expression : TypeTree → Bool
-  is_expression (named n m vs) = true
-  is_expression (parenthesized s t) = is_expression t
-  is_expression (pointer s t) = is_expression t
-  is_expression (slice s t) = ends_as_conversion t
-  is_expression (array s e t) = ends_as_conversion t
-  is_expression (counted s t) = false
-  is_expression (mapping s k t) = ends_as_conversion t
-  is_expression (func s gs r) = result_as_operand r
-  is_expression (listed s gs) = false
-  is_expression (struct s gs) = false
-  is_expression (interface s us) = false
-  is_expression (method n gs r) = false
-  is_expression (union s us) = false
-  is_expression (tilde s t) = false
+  pub ends_open : TypeTree → Bool
+  ends_open (named n m vs) = false
+  ends_open (parenthesized s t) = false
+  ends_open (pointer s t) = ends_open t
+  ends_open (slice s t) = ends_open t
+  ends_open (array s e t) = ends_open t
+  ends_open (counted s t) = ends_open t
+  ends_open (mapping s k t) = ends_open t
+  ends_open (func s gs r) = result_is_open r
+  ends_open (listed s gs) = false
+  ends_open (struct s gs) = false
+  ends_open (interface s us) = false
+  ends_open (method n gs r) = result_is_open r
+  ends_open (union s us) = false
+  ends_open (tilde s t) = ends_open t
 
-  -- the text ends with a single expression in parentheses, and what stands before is a type
-  pub ends_as_conversion : TypeTree → Bool
-  ends_as_conversion (named n m vs) = false
-  ends_as_conversion (parenthesized s t) = false
-  ends_as_conversion (pointer s t) = ends_as_conversion t
-  ends_as_conversion (slice s t) = ends_as_conversion t
-  ends_as_conversion (array s e t) = ends_as_conversion t
-  ends_as_conversion (counted s t) = false
-  ends_as_conversion (mapping s k t) = ends_as_conversion t
-  ends_as_conversion (func s gs r) = result_as_operand r
-  ends_as_conversion (listed s gs) = one_operand gs
-  ends_as_conversion (struct s gs) = false
-  ends_as_conversion (interface s us) = false
-  ends_as_conversion (method n gs r) = false
-  ends_as_conversion (union s us) = false
-  ends_as_conversion (tilde s t) = false
-
-  pub result_as_operand : MaybeType → Bool
-  result_as_operand no_type = false
-  result_as_operand (given_type t) = ends_as_conversion t
-
-  -- one type without a name which is an expression too, or a name with a type that goes on with it as an expression does
-  pub one_operand : Groups → Bool
-  one_operand groups_end = false
-  one_operand (group_and ns t gs) = no_groups gs && ((no_names ns && is_expression t) || (one_name ns && continues t))
-
-  -- behind a name, the text of this type goes on with an expression: `n *T`, `n (T)`, `n [e] (T)`
-  pub continues : TypeTree → Bool
-  continues (named n m vs) = false
-  continues (parenthesized s t) = true
-  continues (pointer s t) = is_expression t
-  continues (slice s t) = false
-  continues (array s e t) = continues t
-  continues (counted s t) = false
-  continues (mapping s k t) = false
-  continues (func s gs r) = false
-  continues (listed s gs) = false
-  continues (struct s gs) = false
-  continues (interface s us) = false
-  continues (method n gs r) = false
-  continues (union s us) = false
-  continues (tilde s t) = false
+  pub result_is_open : MaybeType → Bool
+  result_is_open no_type = true
+  result_is_open (given_type t) = ends_open t
 
 abbrev pub all_expressions : Types → Bool
 all_expressions types_end = true

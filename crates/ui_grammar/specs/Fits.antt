@@ -1,10 +1,10 @@
 -- Which trees have the place that they stand in: levels of operators, the rule for headers, expressions before types, and
 -- the depth. Go specification, "Operators", "Composite literals", "Conversions", "Function types", "General interfaces".
-use Rattle.std.specs.Prelude.{◌≡◌, ◌<◌, ◌≤◌, ℕ, suc, max, Bool, true, false, ◌&&◌, ◌||◌, List, [], ◌∷◌}
+use Rattle.std.specs.Prelude.{◌≡◌, ◌<◌, ◌≤◌, ℕ, suc, max, Bool, true, false, ◌&&◌, ◌||◌, List, [], ◌∷◌, Option, Some, None}
 use Rattle.ui_tree.specs.declared.part.Placed.{Placed}
 use Rattle.ui_tree.specs.Tree.{TypeTree, named, parenthesized, pointer, slice, array, counted, mapping, func, listed, struct, interface, method, union, tilde, Args, no_args, args, Types, types_end, type_and, Groups, groups_end, group_and, MaybeType, no_type, given_type, Tree, literal, name, paren, convert, composite, elided, keyed, instance, selector, assert, index, sliced, call, type_arg, unary, binary, Trees, trees_end, tree_and, MaybeTree, absent, given}
 use Rattle.ui_grammar.specs.Operator.{level_of}
-use Rattle.ui_grammar.specs.Both.{is_expression, no_names}
+use Rattle.ui_grammar.specs.Both.{is_expression, ends_open, no_names}
 
 -- ---- places
 
@@ -123,9 +123,15 @@ all_bare (group_and ns t gs) = no_names ns && all_bare gs
 
 -- ---- depth: nested types, expressions, literal values in braces, and signatures, which count as func types
 
+-- `p.T` counts two, as the expression does: a text that is both has one depth
+abbrev pub name_depth : Option Placed → ℕ
+name_depth None = 1
+name_depth (Some p) = 2
+
 abbrev mutual
   pub type_depth : TypeTree → ℕ
-  type_depth (named n m vs) = suc (args_depth vs)
+  type_depth (named n m no_args) = name_depth m
+  type_depth (named n m (args us)) = suc (max (name_depth m) (types_depth us))
   type_depth (parenthesized s t) = suc (type_depth t)
   type_depth (pointer s t) = suc (type_depth t)
   type_depth (slice s t) = suc (type_depth t)
@@ -139,10 +145,6 @@ abbrev mutual
   type_depth (method n gs r) = suc (max (groups_depth gs) (maybe_type_depth r))
   type_depth (union s us) = types_depth us
   type_depth (tilde s t) = type_depth t
-
-  pub args_depth : Args → ℕ
-  args_depth no_args = 0
-  args_depth (args us) = types_depth us
 
   pub types_depth : Types → ℕ
   types_depth types_end = 0
@@ -221,8 +223,8 @@ abbrev mutual
   Fits (literal s k v) p = Unit {0}
   Fits (name n) p = Unit {0}
   Fits (paren s e) p = Fits e plain
-  -- The type is no expression; `*` before one is an operator.
-  Fits (convert s t e) p = (is_expression t ≡ false) × (is_pointer t ≡ false) × FitsType t plain_type × Fits e plain
+  -- The type is no expression; `*` before one is an operator, and parentheses behind a signature are its results.
+  Fits (convert s t e) p = (is_expression t ≡ false) × (is_pointer t ≡ false) × (ends_open t ≡ false) × FitsType t plain_type × Fits e plain
   -- in a header no braces follow a type's name
   Fits (composite s t es) p = ((is_named t && is_header p) ≡ false) × FitsType t of_literal × FitsTrees es element
   Fits (elided s es) p = (takes_braces p ≡ true) × FitsTrees es element

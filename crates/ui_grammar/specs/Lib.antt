@@ -6,3 +6,4 @@ pub mod Fits
 pub mod Statement
 pub mod Declaration
 pub mod Parse
+pub mod Frames

@@ -250,11 +250,11 @@ abbrev mutual
   FitsClauses clauses_end = Unit {0}
   FitsClauses (clause_and s es ss cs) = FitsMaybeTrees es × FitsStmts ss × FitsClauses cs
 
--- ---- depth: a statement counts one, and what follows `else` is a statement
+-- ---- depth: a statement counts one; what follows `else` is a statement, and what stands before `range` counts as one
 
 abbrev pub places_depth : Places → ℕ
 places_depth no_places = 0
-places_depth (places es defines) = trees_depth es
+places_depth (places es defines) = suc (trees_depth es)
 
 abbrev mutual
   pub stmt_depth : Stmt → ℕ

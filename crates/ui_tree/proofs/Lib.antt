@@ -1,4 +1,3 @@
-pub mod Views
 pub mod StmtViews
 pub mod Apart
 pub mod Pairs

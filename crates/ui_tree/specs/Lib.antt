@@ -2,3 +2,4 @@ pub mod Tree
 pub mod View
 pub mod Stmt
 pub mod StmtView
+pub mod Views

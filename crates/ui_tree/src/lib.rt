@@ -3,6 +3,7 @@
 
 mod decl;
 mod expr;
+mod make;
 mod part;
 mod same;
 mod stmt;

@@ -137,7 +137,7 @@ fn same_groups(a: &[Group<Boxed<TypeExpr>>], b: &[Group<Boxed<TypeExpr>>]) -> bo
 impl TypeExpr {
     /// Whether the types are equal but for their spots.
     #[cycle(same)]
-    #[tactic(auto, using(std::proofs::lemmas::Grind::common_steps, crate::proofs::Views::type_variants))]
+    #[tactic(auto, using(std::proofs::lemmas::Grind::common_steps, crate::specs::Views::type_variants))]
     pub fn same(&self, other: &TypeExpr) -> bool
         ensures { IsTrue result ↔ (type_shape self.now ≡ type_shape other.now) }
     {
@@ -228,7 +228,7 @@ impl TypeExpr {
 impl ExprTree {
     /// Whether the expressions are equal but for their spots.
     #[cycle(same)]
-    #[tactic(auto, using(std::proofs::lemmas::Grind::common_steps, crate::proofs::Views::variants))]
+    #[tactic(auto, using(std::proofs::lemmas::Grind::common_steps, crate::specs::Views::variants))]
     pub fn same(&self, other: &ExprTree) -> bool
         ensures { IsTrue result ↔ (shape self.now ≡ shape other.now) }
     {

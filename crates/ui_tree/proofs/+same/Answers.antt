@@ -1,7 +1,7 @@
 use Rattle.std.proofs.Common.{◌≡◌, IsTrue, false, rules, arith, ap, sym, ◌∙◌}
 use Rattle.std.proofs.lemmas.Grind.{common_steps}
 use Rattle.ui_tree.specs.View.{forgotten, shape, type_shape}
-use Rattle.ui_tree.proofs.Views.{seen_Literal, seen_Name, seen_Paren, seen_Convert, seen_Composite, seen_Elided, seen_Keyed, seen_Instance, seen_Selector, seen_Assert, seen_Index, seen_Sliced, seen_Call, seen_Type, seen_Unary, seen_Binary, seen_Named, seen_Parenthesized, seen_Pointer, seen_Slice, seen_Array, seen_Counted, seen_Map, seen_Func, seen_Listed, seen_Struct, seen_Interface, seen_Method, seen_Union, seen_Tilde}
+use Rattle.ui_tree.specs.Views.{seen_Literal, seen_Name, seen_Paren, seen_Convert, seen_Composite, seen_Elided, seen_Keyed, seen_Instance, seen_Selector, seen_Assert, seen_Index, seen_Sliced, seen_Call, seen_Type, seen_Unary, seen_Binary, seen_Named, seen_Parenthesized, seen_Pointer, seen_Slice, seen_Array, seen_Counted, seen_Map, seen_Func, seen_Listed, seen_Struct, seen_Interface, seen_Method, seen_Union, seen_Tilde}
 use Rattle.ui_tree.proofs.Apart.{apart_Literal, apart_Name, apart_Paren, apart_Convert, apart_Composite, apart_Elided, apart_Keyed, apart_Instance, apart_Selector, apart_Assert, apart_Index, apart_Sliced, apart_Call, apart_Type, apart_Unary, apart_Binary, apart_Named, apart_Parenthesized, apart_Pointer, apart_Slice, apart_Array, apart_Counted, apart_Map, apart_Func, apart_Listed, apart_Struct, apart_Interface, apart_Method, apart_Union, apart_Tilde}
 use Rattle.ui_tree.proofs.Pairs.{group_shape, images_length, images_at, images_all, names_in, type_in, trees_same, types_same, groups_same, groups_same_back}
 use Rattle.ui_tree.proofs.+same.Goals as goal

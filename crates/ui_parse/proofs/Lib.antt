@@ -1,0 +1,4 @@
+pub mod Tags
+pub mod Words
+pub mod Readable
+pub mod Turns
