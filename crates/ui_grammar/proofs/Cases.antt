@@ -1,5 +1,5 @@
 -- Short lists of words with their trees.
-use Rattle.std.proofs.Common.{◌≡◌, ◌≤◌, ◌<◌, ℕ, Bool, true, false, List, [], ◌∷◌, refl, inl, inr, codes, pos, lit≤, lit<, arith}
+use Rattle.std.proofs.Common.{ℕ, true, List, [], ◌∷◌, refl, inl, codes, pos, lit≤, lit<, arith}
 use Rattle.ui_base.specs.declared.value.Spot.{Spot}
 use Rattle.ui_base.specs.declared.value.Value.TheVariants as value
 use Rattle.ui_base.specs.declared.kind.BinOp.TheVariants.{Add as Plus, Mul as Times, Equal as Equals}
@@ -10,7 +10,7 @@ use Rattle.ui_tree.specs.declared.part.LiteralKind.TheVariants.{Whole}
 use Rattle.std.specs.Prelude.{None}
 use Rattle.ui_tree.specs.Tree.{TypeTree, named, slice, func, listed, struct, no_args, groups_end, group_and, given_type, Tree, literal, name, paren, composite, call, binary, trees_end, tree_and}
 use Rattle.ui_grammar.specs.Word.{Word, ident, lit, mark}
-use Rattle.ui_grammar.specs.Fits.{Place, plain, in_header, Fits}
+use Rattle.ui_grammar.specs.Fits.{plain, in_header, Fits}
 use Rattle.ui_grammar.specs.Parse.{HasExpr, HasType, depth_limit}
 
 -- words of one line, by their column

@@ -1,10 +1,10 @@
 -- An operator's token is that operator.
-use Rattle.std.proofs.Common.{◌≡◌, Some, None, Option, refl}
+use Rattle.std.proofs.Common.{◌≡◌, Some, refl}
 use Rattle.ui_base.specs.declared.kind.BinOp.{BinOp}
 use Rattle.ui_base.specs.declared.kind.BinOp.TheVariants as op
 use Rattle.ui_tree.specs.declared.part.PrefixOp.{PrefixOp}
 use Rattle.ui_tree.specs.declared.part.PrefixOp.TheVariants as prefix
-use Rattle.ui_grammar.specs.Operator.{mark_of, operator_of, prefix_mark_of, prefix_of, assign_mark_of, assignment_of}
+use Rattle.ui_grammar.specs.Operator.{mark_of, operator_of, prefix_mark_of, prefix_of}
 
 pub operator_of-mark_of : (o : BinOp) → operator_of (mark_of o) ≡ Some o
 operator_of-mark_of op.Add = refl

@@ -1,5 +1,5 @@
 -- Short statements, declarations and files with their trees, and what the rules on places say of some trees.
-use Rattle.std.proofs.Common.{◌≡◌, ◌≤◌, ℕ, Bool, true, false, List, [], ◌∷◌, refl, inl, inr, codes, pos, lit≤}
+use Rattle.std.proofs.Common.{◌≡◌, ℕ, true, false, List, [], ◌∷◌, refl, inl, inr, codes, pos, lit≤}
 use Rattle.std.specs.Prelude.{None}
 use Rattle.ui_base.specs.declared.value.Spot.{Spot}
 use Rattle.ui_base.specs.declared.value.Value.TheVariants as value
@@ -13,8 +13,8 @@ use Rattle.ui_tree.specs.Tree.{TypeTree, named, pointer, slice, func, listed, in
 use Rattle.ui_tree.specs.Stmt.{given_trees, Stmt, branch, increment, decrement, block, braces, stmts_end, stmt_and, no_stmt, constants, common_decl, File}
 use Rattle.ui_grammar.specs.Word.{Word, ident, lit, mark}
 use Rattle.ui_grammar.specs.Both.{is_expression, is_length}
-use Rattle.ui_grammar.specs.Fits.{plain, argument, plain_type, Fits, FitsType}
-use Rattle.ui_grammar.specs.Statement.{SpellsStmt, FitsStmt}
+use Rattle.ui_grammar.specs.Fits.{argument, plain_type, Fits, FitsType}
+use Rattle.ui_grammar.specs.Statement.{SpellsStmt}
 use Rattle.ui_grammar.specs.Parse.{HasFile, depth_limit}
 
 abbrev at : ℕ → Spot

@@ -1,12 +1,12 @@
 -- `func(A)(a *b)`: a func type with a named result. Parentheses behind a signature are its results, so it is no conversion.
-use Rattle.std.proofs.Common.{◌≡◌, ℕ, true, false, List, [], ◌∷◌, refl, inl, codes, lit≤, lit<}
+use Rattle.std.proofs.Common.{◌≡◌, ℕ, true, false, List, [], ◌∷◌, refl, inl, codes, lit≤}
 use Rattle.std.specs.Prelude.{None}
 use Rattle.ui_base.specs.declared.value.Spot.{Spot}
 use Rattle.ui_base.specs.declared.kind.BinOp.TheVariants.{Mul as Times}
 use Rattle.ui_scan.specs.declared.kind.TokenKind.{TokenKind}
 use Rattle.ui_scan.specs.declared.kind.TokenKind.TheVariants as k
 use Rattle.ui_tree.specs.declared.part.Placed.{Placed}
-use Rattle.ui_tree.specs.Tree.{TypeTree, named, parenthesized, pointer, slice, func, listed, no_args, groups_end, group_and, no_type, given_type, Tree, name, convert, binary, type_arg}
+use Rattle.ui_tree.specs.Tree.{TypeTree, named, pointer, func, listed, no_args, groups_end, group_and, no_type, given_type, Tree, name, convert, binary, type_arg}
 use Rattle.ui_grammar.specs.Word.{Word, ident, mark}
 use Rattle.ui_grammar.specs.Fits.{argument, plain, Fits}
 use Rattle.ui_grammar.specs.Parse.{HasExpr, depth_limit}

@@ -1,10 +1,9 @@
 -- Which words spell a declaration or a file, and which of these fit. Go specification, "Declarations and scope" and "Source
 -- file organization".
-use Rattle.std.specs.Prelude.{◌≡◌, ◌⊎◌, ℕ, suc, max, Bool, true, false, ◌||◌, List, [], ◌∷◌, Option, Some, None}
-use Rattle.ui_base.specs.declared.value.Spot.{Spot}
+use Rattle.std.specs.Prelude.{◌≡◌, ℕ, suc, max, Bool, true, false, ◌||◌, List, [], ◌∷◌, Option, Some, None}
 use Rattle.ui_scan.specs.declared.kind.TokenKind.TheVariants.{LParen, RParen, LBracket, RBracket, Comma, Semi, Assign, Mul, Import as AnImport, «Type» as AType, Func, Package}
 use Rattle.ui_tree.specs.declared.part.Placed.{Placed}
-use Rattle.ui_tree.specs.Tree.{TypeTree, Groups, groups_end, group_and, MaybeType}
+use Rattle.ui_tree.specs.Tree.{Groups, groups_end, group_and, MaybeType}
 use Rattle.ui_tree.specs.Stmt.{Imported, Import, TypeGroup, Recv, MaybeGroups, no_groups, given_groups, Decl, common_decl, type_decl, method_decl, func_decl, File}
 use Rattle.ui_grammar.specs.Word.{Word, mark, Named, Mark, Quoted, If, Names}
 use Rattle.ui_grammar.specs.Both.{is_length}

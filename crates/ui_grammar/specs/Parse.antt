@@ -2,7 +2,7 @@
 use Rattle.std.specs.Prelude.{◌≡◌, ℕ, ◌+◌, ◌<◌, ◌≤◌, List, [], ◌∷◌, ◌++◌, length, take}
 use Rattle.ui_base.specs.declared.value.Spot.{Spot}
 use Rattle.ui_scan.specs.declared.kind.TokenKind.TheVariants.{LParen, RParen, Comma, End}
-use Rattle.ui_tree.specs.Tree.{TypeTree, named, parenthesized, pointer, slice, array, counted, mapping, func, listed, struct, interface, method, union, tilde, Tree}
+use Rattle.ui_tree.specs.Tree.{TypeTree, func, Tree}
 use Rattle.ui_tree.specs.Stmt.{File}
 use Rattle.ui_grammar.specs.Word.{Word, mark}
 use Rattle.ui_grammar.specs.Spells.{Spells, SpellsType, SpellsGroups, SpellsMaybeType}

@@ -2,12 +2,12 @@
 --
 -- `Spells tree ts rest`: the words ts begin with a spelling of the tree, behind which rest is left. Beside each case stands
 -- its production; Names, and lists with a separator and a closing mark, are in Word and at the end of each block here.
-use Rattle.std.specs.Prelude.{◌≡◌, ◌⊎◌, Bool, true, false, List, [], ◌∷◌, Option, Some, None}
+use Rattle.std.specs.Prelude.{◌≡◌, Bool, true, false, List, [], ◌∷◌, Option, Some, None}
 use Rattle.ui_scan.specs.declared.kind.TokenKind.{TokenKind}
 use Rattle.ui_scan.specs.declared.kind.TokenKind.TheVariants.{LParen, RParen, LBracket, RBracket, LBrace, RBrace, Comma, Semi, Period, Colon, Ellipsis, Mul, Or, Tilde, Map, Func, Struct, Interface}
 use Rattle.ui_tree.specs.declared.part.Placed.{Placed}
 use Rattle.ui_tree.specs.Tree.{TypeTree, named, parenthesized, pointer, slice, array, counted, mapping, func, listed, struct, interface, method, union, tilde, Args, no_args, args, Types, types_end, type_and, Groups, groups_end, group_and, MaybeType, no_type, given_type, Tree, literal, name, paren, convert, composite, elided, keyed, instance, selector, assert, index, sliced, call, type_arg, unary, binary, Trees, trees_end, tree_and, MaybeTree, absent, given}
-use Rattle.ui_grammar.specs.Word.{Word, ident, lit, mark, Named, Mark, Begins, Closes, If, Names}
+use Rattle.ui_grammar.specs.Word.{Word, lit, mark, Named, Mark, Begins, Closes, If, Names}
 use Rattle.ui_grammar.specs.Operator.{mark_of, prefix_mark_of}
 use Rattle.ui_grammar.specs.Both.{is_expression}
 

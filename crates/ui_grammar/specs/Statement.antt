@@ -1,18 +1,17 @@
 -- Which words spell a statement, and which statements have the place that they stand in. Go specification, "Statements",
 -- "Constant declarations", "Variable declarations".
 use Rattle.std.specs.Prelude.{◌≡◌, ◌⊎◌, ℕ, suc, max, Bool, true, false, List, [], ◌∷◌, Option, Some, None, if◌then◌else◌}
-use Rattle.ui_base.specs.declared.kind.BinOp.{BinOp}
 use Rattle.ui_base.specs.declared.value.Spot.{Spot}
 use Rattle.ui_scan.specs.declared.kind.TokenKind.{TokenKind}
-use Rattle.ui_scan.specs.declared.kind.TokenKind.TheVariants.{LParen, RParen, LBrace, RBrace, Comma, Semi, Colon, Assign, Define, Inc, Dec, Const, Var, Return, Break, Continue, If, Else, For, Range, Switch, Case, Default}
+use Rattle.ui_scan.specs.declared.kind.TokenKind.TheVariants.{LParen, RParen, LBrace, RBrace, Semi, Colon, Assign, Define, Inc, Dec, Const, Var, Return, Break, Continue, If, Else, For, Range, Switch, Case, Default}
 use Rattle.ui_tree.specs.declared.part.Specs.{Specs}
 use Rattle.ui_tree.specs.declared.part.Specs.TheVariants.{One, Grouped}
-use Rattle.ui_tree.specs.Tree.{TypeTree, MaybeType, no_type, given_type, Tree, Trees, MaybeTree, absent, given}
+use Rattle.ui_tree.specs.Tree.{MaybeType, no_type, given_type, MaybeTree, absent, given}
 use Rattle.ui_tree.specs.Stmt.{MaybeTrees, no_trees, given_trees, ValueGroup, Common, constants, variables, Places, no_places, places, Stmt, empty, common, block, alone, assign, op_assign, define, increment, decrement, returning, breaking, continuing, branch, loop, while_true, counting, ranging, switch, MaybeStmt, no_stmt, given_stmt, Braces, braces, Stmts, stmts_end, stmt_and, Clauses, clauses_end, clause_and}
 use Rattle.ui_grammar.specs.Word.{Word, mark, Mark, Begins, Closes, Names}
 use Rattle.ui_grammar.specs.Operator.{assign_mark_of}
 use Rattle.ui_grammar.specs.Spells.{Spells, SpellsType, SpellsMaybeType, SpellsMaybe, SpellsExprs}
-use Rattle.ui_grammar.specs.Fits.{Place, plain, in_header, plain_type, Fits, FitsType, FitsMaybeType, FitsTrees, depth, trees_depth, maybe_depth, maybe_type_depth}
+use Rattle.ui_grammar.specs.Fits.{Place, plain, in_header, plain_type, Fits, FitsMaybeType, FitsTrees, depth, trees_depth, maybe_depth, maybe_type_depth}
 
 -- ---- one specification, or several in parentheses with semicolons, of which the last may be left out
 

@@ -5,7 +5,7 @@ use Rattle.ui_base.specs.declared.value.Value.{Value}
 use Rattle.ui_base.specs.declared.value.Value.TheVariants as value
 use Rattle.ui_scan.specs.declared.kind.Token.{Token}
 use Rattle.ui_scan.specs.declared.kind.TokenKind.{TokenKind}
-use Rattle.ui_scan.specs.declared.kind.TokenKind.TheVariants.{Ident, Int, Rune, Str, Semi, Comma}
+use Rattle.ui_scan.specs.declared.kind.TokenKind.TheVariants.{Ident, Int, Rune, Str, Comma}
 use Rattle.ui_scan.specs.Value.{text_of, value_in}
 use Rattle.ui_tree.specs.declared.part.Placed.{Placed}
 use Rattle.ui_tree.specs.declared.part.LiteralKind.{LiteralKind}

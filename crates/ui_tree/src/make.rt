@@ -106,7 +106,10 @@ impl TypeExpr {
     pub fn listed(spot: Spot, results: Items<Group<Boxed<TypeExpr>>>) -> TypeExpr
         ensures { type_view result ≡ tree.listed spot (groups kept (map (group_with type_view) results)) }
     {
-        TypeExpr::Listed { spot, groups: results }
+        TypeExpr::Listed {
+            spot,
+            groups: results,
+        }
     }
 }
 
