@@ -7,3 +7,5 @@ pub mod Statement
 pub mod Declaration
 pub mod Parse
 pub mod Frames
+pub mod FramesStmt
+pub mod FramesDecl

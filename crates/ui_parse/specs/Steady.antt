@@ -88,7 +88,7 @@ pub bind_same : {A B : Type 0} (ws : List Word) (o : Outcome A) (f g : A → Rea
 bind_same ws (Ok p) f g e same = same p.0 p.1 e.holds
 bind_same ws (Err r) f g e same = refl
 
-cond_same : {A : Type 0} (b : Bool) (p p' q q' : Reader A) (ws : List Word) → p ws ≡ p' ws → q ws ≡ q' ws → cond b p q ws ≡ cond b p' q' ws
+pub cond_same : {A : Type 0} (b : Bool) (p p' q q' : Reader A) (ws : List Word) → p ws ≡ p' ws → q ws ≡ q' ws → cond b p q ws ≡ cond b p' q' ws
 cond_same true p p' q q' ws on off = on
 cond_same false p p' q q' ws on off = off
 
@@ -97,13 +97,13 @@ taken_same : {A B : Type 0} (x : Option B) (on on' : B → Reader A) (other othe
 taken_same None on on' other other' w ws same others = others
 taken_same (Some b) on on' other other' w ws same others = same b
 
-take_same : {A B : Type 0} (test : Word → Option B) (on on' : B → Reader A) (other other' : Reader A) (ws : List Word) → ((b : B) (rest : List Word) → length rest < length ws → on b rest ≡ on' b rest) → other ws ≡ other' ws
+pub take_same : {A B : Type 0} (test : Word → Option B) (on on' : B → Reader A) (other other' : Reader A) (ws : List Word) → ((b : B) (rest : List Word) → length rest < length ws → on b rest ≡ on' b rest) → other ws ≡ other' ws
     → take_by test on other ws ≡ take_by test on' other' ws
 unfolding take_by
 take_same test on on' other other' [] same others = others
 take_same test on on' other other' (w ∷ ws) same others = taken_same (test w) on on' other other' w ws (λ b. same b ws (omega arith)) others
 
-steady_by_length : {A : Type 0} (f : ℕ → Reader A) → ((n : ℕ) → Steady (f n)) → ((n m : ℕ) (ws : List Word) → length ws < n → length ws < m → f n ws ≡ f m ws) → Steady (λ ws. f (suc (length ws)) ws)
+pub steady_by_length : {A : Type 0} (f : ℕ → Reader A) → ((n : ℕ) → Steady (f n)) → ((n m : ℕ) (ws : List Word) → length ws < n → length ws < m → f n ws ≡ f m ws) → Steady (λ ws. f (suc (length ws)) ws)
 steady_by_length f f_is fuel = record {
   ends = λ ws. (f_is (suc (length ws))).ends ws;
   alike = λ tails text.

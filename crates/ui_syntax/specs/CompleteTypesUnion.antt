@@ -25,19 +25,19 @@ use Rattle.ui_syntax.specs.CompleteTypesOperand.{found, opened_is}
 use Rattle.ui_syntax.specs.CompleteTypesPlain.{begins_with, reads_to, plain_read, other_read, name_read}
 
 -- no type goes on
-record QuietTerm (ts : List Word) : Type 0 where
-  no_type : NoType ts
-  no_dot : first (marked Period) ts ≡ None
+pub record QuietTerm (ts : List Word) : Type 0 where
+  pub no_type : NoType ts
+  pub no_dot : first (marked Period) ts ≡ None
 
-quiet_term : (t : TypeTree) (ts : List Word) → QuietTerm ts → QuietType t ts
+pub quiet_term : (t : TypeTree) (ts : List Word) → QuietTerm ts → QuietType t ts
 quiet_term t ts q = record { no_dot = q.no_dot; no_bracket = q.no_type.no_bracket; no_result = λ _. q.no_type }
 
-terms_quiet : (us : Types) (ts rest : List Word) → SpellsTermsTail us ts rest → QuietTerm rest → QuietTerm ts
+pub terms_quiet : (us : Types) (ts rest : List Word) → SpellsTermsTail us ts rest → QuietTerm rest → QuietTerm ts
 terms_quiet types_end ts rest s q = subst QuietTerm (sym s) q
 terms_quiet (type_and t us) ts rest s q = subst QuietTerm (sym s.2.is) (record { no_type = no_type_or s.2.spot s.0; no_dot = refl })
 
 module _ (room low : ℕ) (inner : Nested) (has : Below room low inner) where
-  plain_is : (t : TypeTree) (ts rest : List Word) → SpellsType t ts rest → FitsType t plain_type → type_depth t ≤ suc room → QuietTerm rest → MaybeAs (plain_reader room inner ts) t (type_depth t) rest
+  pub plain_is : (t : TypeTree) (ts rest : List Word) → SpellsType t ts rest → FitsType t plain_type → type_depth t ≤ suc room → QuietTerm rest → MaybeAs (plain_reader room inner ts) t (type_depth t) rest
   plain_is t ts rest s fits le q = maybe_as (plain_reader room inner ts) t ts rest (plain_read room low inner has t ts rest s fits le (quiet_term t rest q))
 
   one_term : (t : TypeTree) (ts rest : List Word) → SpellsType t ts rest → TermCase t → type_depth t ≤ suc room → QuietTerm rest → ReadAs (term room inner ts) t (type_depth t) rest
@@ -64,7 +64,7 @@ module _ (room low : ℕ) (inner : Nested) (has : Below room low inner) where
       ∙ ap (λ (v : Listed TypeTree). Ok (v, rest)) (with_one l t us)
 
   -- behind a first term
-  union_is : (t : TypeTree) (us : Types) (x : Spot) (ts rest : List Word) → SpellsTermsTail us ts rest → FitsTypes us term_place → types_depth us ≤ suc room → QuietTerm rest → first (marked Or) rest ≡ None
+  pub union_is : (t : TypeTree) (us : Types) (x : Spot) (ts rest : List Word) → SpellsTermsTail us ts rest → FitsTypes us term_place → types_depth us ≤ suc room → QuietTerm rest → first (marked Or) rest ≡ None
       → union_from room inner (of_type t x (type_depth t)) ts ≡ found (union x (type_and t us)) x rest
   unfolding union_from
   union_is t us x ts rest s fits le q no_or = rw (terms_tail_read us (only t (type_depth t)) ts rest s fits le q no_or) (rw types_of_list refl)

@@ -46,7 +46,7 @@ next_sound room low inner below is steady = record {
   lower = is.own;
 }
 
-below_next : (d : ℕ) → 2 ≤ d → suc (pred d) ≤ d
+pub below_next : (d : ℕ) → 2 ≤ d → suc (pred d) ≤ d
 below_next zero le = absurd (omega arith)
 below_next (suc d) le = omega arith
 

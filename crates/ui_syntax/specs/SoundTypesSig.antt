@@ -88,11 +88,11 @@ module _ (room : ℕ) where
     pub shallow : k ≤ suc room
     pub no_results : result_is_open r ≡ true → first (marked LParen) rest ≡ None
 
-  frame_params : (ts : List Word) (l : Listed (Group TypeTree)) (m : List Word) → ParamsRead room ts l m → Framed (Form Whole (GoodGroups room)) ts m
+  pub frame_params : (ts : List Word) (l : Listed (Group TypeTree)) (m : List Word) → ParamsRead room ts l m → Framed (Form Whole (GoodGroups room)) ts m
   frame_params ts l m h = framed_as (frame_groups Comma RParen (groups kept l.items) ts m h.spells)
       (λ us ws s. record { all = l.items; spells = s; ok = record { styled = h.styled; fit = record { fits = h.fits; shallow = omega (arith, h.sized, h.shallow) } } })
 
-  sig_read : (ts : List Word) (gs : Listed (Group TypeTree)) (m : List Word) (r : MaybeType) (k : ℕ) (rest : List Word) → ParamsRead room ts gs m → ResultRead m r k rest → SigRead ts gs.items r (suc (max gs.depth k)) rest
+  pub sig_read : (ts : List Word) (gs : Listed (Group TypeTree)) (m : List Word) (r : MaybeType) (k : ℕ) (rest : List Word) → ParamsRead room ts gs m → ResultRead m r k rest → SigRead ts gs.items r (suc (max gs.depth k)) rest
   sig_read ts gs m r k rest h g = record {
     middle = m;
     params = h.spells;

@@ -78,21 +78,24 @@ module _ (b : ℕ) where
       ok = ok_add term b l t.tree t.depth j.ok r.fits r.sized r.shallow;
     }
 
-    next_stops : (l : Listed TypeTree) (x : Spot) (ws rest last : List Word) → 1 ≤ b → TermsAt l ws → ws ≡ mark Or x ∷ rest → Stops (TypeFits term b) rest last → Begun (TypeForm at.Element b) ts last
-    next_stops l x ws rest last le j e st = begun_as
-        (run_begun TermsTail Terms {Ok1 = GoodTypes term b} {Ok2 = GoodTypes term b} l.items ts ws last j.run (λ us h. good_append l.items us term b (ok_good term b l j.ok) h)
-        (begun_as (behind (frame_mark Or ws rest (record { spot = x; is = e })) (begun_stops (short_term le) st)) (λ us rs h. let t = h.2 in record { all = t.tree ∷ []; spells = (h.0, rs, h.1, t.spells, refl); ok = good_one t.tree term b t.fits t.shallow })))
-        union_form
+    next_stops : (l : Listed TypeTree) (x : Spot) (ws rest last : List Word) → 1 ≤ b → TermsAt l ws → ws ≡ mark Or x ∷ rest → Stops (TypeFits term b) rest last → Begun (Form Terms (GoodTypes term b)) ts last
+    next_stops l x ws rest last le j e st = run_begun TermsTail Terms {Ok1 = GoodTypes term b} {Ok2 = GoodTypes term b} l.items ts ws last j.run (λ us h. good_append l.items us term b (ok_good term b l j.ok) h)
+        (begun_as (behind (frame_mark Or ws rest (record { spot = x; is = e })) (begun_stops (short_term le) st)) (λ us rs h. let t = h.2 in record { all = t.tree ∷ []; spells = (h.0, rs, h.1, t.spells, refl); ok = good_one t.tree term b t.fits t.shallow }))
+
+    pub terms_hold : (reader : Reader (Read TypeTree)) → Steady reader → ((us : List Word) → Holds (TypeOk term b us) (Stops (TypeFits term b) us) (reader us)) → 1 ≤ b → (t : Read TypeTree) (ws : List Word) → TypeOk term b ts t ws
+        → Holds TermsAt (Begun (Form Terms (GoodTypes term b)) ts) (chain Or (one_more reader) (only t.tree t.depth) ws)
+    terms_hold reader reader_is sound le t ws r = mono
+        (chain_holds Or (one_more reader) (λ l. steady_bind reader_is (λ t. steady_pure (add l t.tree t.depth))) TermsAt (Begun (Form Terms (GoodTypes term b)) ts)
+        (λ l x u rest j e. bind (sound rest) (λ u last q. good (next_term l x _ rest u last j e q)) (λ last st. next_stops l x u rest last le j e st))
+        (only t.tree t.depth) ws (first_term t ws r))
+        (λ us rest h. h.0) (λ rest g. g)
 
     -- { "|" Term } behind a first term
     pub union_holds : (reader : Reader (Read TypeTree)) → Steady reader → ((us : List Word) → Holds (TypeOk term b us) (Stops (TypeFits term b) us) (reader us)) → 1 ≤ b → (t : Read TypeTree) (ws : List Word) → TypeOk term b ts t ws → Begins t.spot ts
         → Holds (IsMaybeRead at.Element b ts) (Begun (TypeForm at.Element b) ts) (and_then (chain Or (one_more reader) (only t.tree t.depth) ws) (λ us. pure (Some (of_type (union t.spot (types us.items)) t.spot us.depth))))
-    union_holds reader reader_is sound le t ws r begins = bind
-        (chain_holds Or (one_more reader) (λ l. steady_bind reader_is (λ t. steady_pure (add l t.tree t.depth))) TermsAt (Begun (TypeForm at.Element b) ts)
-        (λ l x u rest j e. bind (sound rest) (λ u last q. good (next_term l x _ rest u last j e q)) (λ last st. next_stops l x u rest last le j e st))
-        (only t.tree t.depth) ws (first_term t ws r))
-        (λ us rest h. good (record { begins = begins; spells = (begins, run_end TermsTail Terms us.items ts rest rest h.0.run refl); fits = ((refl, h.0.ok.fits), omega (arith, h.0.ok.sized, h.0.ok.shallow)); sized = h.0.ok.sized; no_results = λ e. absurd cc }))
-        (λ rest g. g)
+    union_holds reader reader_is sound le t ws r begins = bind (terms_hold reader reader_is sound le t ws r)
+        (λ us rest h. good (record { begins = begins; spells = (begins, run_end TermsTail Terms us.items ts rest rest h.run refl); fits = ((refl, h.ok.fits), omega (arith, h.ok.sized, h.ok.shallow)); sized = h.ok.sized; no_results = λ e. absurd cc }))
+        (λ rest g. begun_as g union_form)
 
 -- ---- the readers
 

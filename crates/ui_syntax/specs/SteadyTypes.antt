@@ -107,11 +107,11 @@ module _ (room : ℕ) (inner : Nested) (is : AreSteady inner) where
   unfolding param
   steady_param ps = steady_if _ (steady_param_by ps.style ps) steady_refuse
 
-  steady_params : Steady (params room inner)
+  pub steady_params : Steady (params room inner)
   unfolding params
   steady_params = steady_bind (steady_parts Comma RParen params_ending (param room inner) steady_param _) (λ ps. steady_pure _)
 
-  steady_results : Steady (results room inner)
+  pub steady_results : Steady (results room inner)
   unfolding results
   steady_results = steady_take (marked LParen) (λ s. steady_bind steady_params (λ gs. steady_pure _)) (steady_bind (is.maybe_type at.Plain) (λ t. steady_pure _))
 
@@ -160,7 +160,7 @@ module _ (room : ℕ) (inner : Nested) (is : AreSteady inner) where
   steady_counted_or_array at.Operand s = steady_take (marked Ellipsis) (λ _. steady_counted_type (a_type room inner) steady_a_type s) (steady_array_type s)
   steady_counted_or_array at.Argument s = steady_if _ (steady_take (marked Ellipsis) (λ _. steady_counted_type (a_lower_type room inner) steady_a_lower_type s) (steady_array_type s)) (steady_array_type s)
 
-  steady_bracket_type : (p : TypeSite) (s : Spot) → Steady (bracket_type room inner p s)
+  pub steady_bracket_type : (p : TypeSite) (s : Spot) → Steady (bracket_type room inner p s)
   unfolding bracket_type
   steady_bracket_type p s = steady_take (marked RBracket) (λ _. steady_bind steady_a_type (λ t. steady_pure _)) (steady_counted_or_array p s)
 
@@ -187,7 +187,7 @@ module _ (room : ℕ) (inner : Nested) (is : AreSteady inner) where
   steady_other_type : Steady (other_type room inner)
   steady_other_type = steady_operand_type at.Plain (marked_type room inner) steady_marked_type
 
-  steady_plain_type : Steady (plain_type room inner)
+  pub steady_plain_type : Steady (plain_type room inner)
   unfolding plain_type
   steady_plain_type = steady_take a_name (λ p. steady_opened (steady_named_type (a_type room inner) steady_a_type (suc room) p)) steady_other_type
 
@@ -197,11 +197,11 @@ module _ (room : ℕ) (inner : Nested) (is : AreSteady inner) where
   unfolding term
   steady_term = steady_take (marked Tilde) (λ s. steady_bind steady_plain_type (λ m. steady_bind (steady_or_refuse m) (λ t. steady_pure _))) (steady_bind steady_plain_type steady_or_refuse)
 
-  steady_union_from : (t : Read TypeTree) → Steady (union_from room inner t)
+  pub steady_union_from : (t : Read TypeTree) → Steady (union_from room inner t)
   unfolding union_from
   steady_union_from t = steady_bind (steady_chain Or (one_more (term room inner)) (steady_one_more (term room inner) steady_term) _) (λ us. steady_pure _)
 
-  steady_maybe_union : (x : Option (Read TypeTree)) → Steady (maybe_union room inner x)
+  pub steady_maybe_union : (x : Option (Read TypeTree)) → Steady (maybe_union room inner x)
   steady_maybe_union None = steady_pure None
   steady_maybe_union (Some t) = steady_union_from t
 
