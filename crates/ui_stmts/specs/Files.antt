@@ -13,12 +13,13 @@ use Rattle.ui_stmts.specs.SoundFile.{FileForm, FileRead, file_holds}
 use Rattle.ui_stmts.specs.CompleteBody.{a_body_read}
 use Rattle.ui_stmts.specs.Complete.{stmts_complete}
 use Rattle.ui_stmts.specs.CompleteDecls.{EndsFile, file_reads}
-use Rattle.ui_stmts.specs.LengthOrParams.{NoBoth, stays_inside}
+use Rattle.ui_stmts.specs.LengthOrParams.{stays_inside}
+use Rattle.ui_stmts.specs.NoBoth.{no_both}
 
 -- What is read is a file; a fault stands at the first word, or behind a front with which a file begins.
 pub file_sound : (room : ℕ) (ts : List Word) → Holds (FileRead room ts) (Stops (FileForm room) ts) (file room ts)
 file_sound room ts = file_holds room (stmts_sound (suc room)) ts
 
--- Each file is read, given that no text is an array's length and type parameters at once.
-pub file_complete : (room : ℕ) → NoBoth → (f : File) (ts rest : List Word) → SpellsFile f ts rest → FitsFile f → file_depth f ≤ suc room → EndsFile rest → file room ts ≡ Ok (f, rest)
-file_complete room no_both = file_reads room (stays_inside room no_both) (a_body_read (suc room) (stmt_readers (suc room)) (stmts_complete (suc room)) (stmts_steady (suc room)))
+-- Each file is read.
+pub file_complete : (room : ℕ) (f : File) (ts rest : List Word) → SpellsFile f ts rest → FitsFile f → file_depth f ≤ suc room → EndsFile rest → file room ts ≡ Ok (f, rest)
+file_complete room = file_reads room (stays_inside room no_both) (a_body_read (suc room) (stmt_readers (suc room)) (stmts_complete (suc room)) (stmts_steady (suc room)))

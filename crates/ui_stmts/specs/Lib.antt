@@ -53,5 +53,8 @@ pub mod CompleteTypeParams
 pub mod CompleteFunctions
 pub mod CompleteTypeSpecs
 pub mod CompleteDecls
+pub mod OneText
+pub mod ParamsGo
+pub mod NoBoth
 pub mod LengthOrParams
 pub mod Files
