@@ -1,7 +1,8 @@
 -- The text of each name of a file lies within its bytes.
-use Rattle.std.proofs.Common.{◌≡◌, ◌≤◌, ℕ, Bool, true, false, List, [], ◌∷◌, ◌++◌, length, Option, Some, None, refl, sym, ap, subst, ◌∙◌, arith, All}
+use Rattle.std.proofs.Common.{◌≡◌, ◌≤◌, ℕ, zero, suc, Bool, true, false, List, [], ◌∷◌, ◌++◌, length, drop, Option, Some, None, refl, sym, ap, subst, ◌∙◌, arith, All}
 use Rattle.std.specs.List.{AllByRecursion}
 use Rattle.std.proofs.lemmas.Bool.{true≢false}
+use Rattle.std.proofs.lemmas.List.{drop-map}
 use Rattle.std.proofs.lemmas.List.Elements.{recursion_from_All}
 use Rattle.ui_scan.specs.declared.kind.Token.{Token}
 use Rattle.ui_scan.specs.declared.kind.TokenKind.TheVariants as kind
@@ -9,6 +10,7 @@ use Rattle.ui_scan.specs.declared.place.Place.{Place}
 use Rattle.ui_scan.specs.Scan.{token_between, due_after}
 use Rattle.ui_scan.specs.Tokens.{place_at, IsLexeme, AreWords, ends_line, semicolon_before, with_semicolons, Tokens}
 use Rattle.ui_scan.specs.Value.{IsIfLiteral}
+use Rattle.ui_grammar.specs.Word.{word_of, words}
 use Rattle.ui_parse.specs.Cursor.{is_name, IsReadable}
 
 record IsIfName (bytes : List ℕ) (t : Token) : Type 0 where
@@ -40,3 +42,13 @@ pub readable : (bytes : List ℕ) (ts : List Token) → Tokens bytes ts → All 
 readable bytes ts found literals = zipped bytes ts
     (subst (AllByRecursion (IsIfName bytes)) (sym found.tokens.tokens) (in_words bytes None _ found.tokens.words found.tokens.stand))
     (recursion_from_All (IsIfLiteral bytes) ts literals)
+
+-- ---- from a place on
+
+pub drop_words : (bytes : List ℕ) (ts : List Token) (n : ℕ) → words bytes (drop n ts) ≡ drop n (words bytes ts)
+drop_words bytes ts n = sym (drop-map (word_of bytes) n ts)
+
+pub drop_readable : (bytes : List ℕ) (n : ℕ) (ts : List Token) → AllByRecursion (IsReadable bytes) ts → AllByRecursion (IsReadable bytes) (drop n ts)
+drop_readable bytes zero ts each = each
+drop_readable bytes (suc n) [] each = tt
+drop_readable bytes (suc n) (t ∷ ts) each = drop_readable bytes n ts each.1

@@ -1,6 +1,6 @@
 //! A cursor over the tokens of a file.
 
-ghost use Rattle.std.specs.Prelude.{◌≡◌, ℕ, List, Some, length, IfOk, is_some};
+ghost use Rattle.std.specs.Prelude.{◌≡◌, ◌≤◌, ℕ, List, Some, length, drop, IfOk, is_some};
 ghost use Rattle.std.specs.List.{AllByRecursion};
 ghost use Rattle.ui_grammar.specs.Word as word;
 ghost use Rattle.ui_scan.specs.Tokens.{Tokens};
@@ -169,6 +169,14 @@ fn tail(tokens: &[Token]) -> &[Token]
     }
 }
 
+// The tokens from a place on.
+fn from_place(tokens: &[Token], from: usize) -> &[Token]
+    requires { from ≤ length tokens.now }
+    ensures { result.now ≡ drop from tokens.now }
+{
+    &tokens[from..]
+}
+
 impl<'a> Cursor<'a> {
     /// A cursor at the first of these tokens, which the file of these bytes has.
     pub fn new(bytes: &'a [u8], tokens: &'a [Token]) -> Cursor<'a>
@@ -179,6 +187,20 @@ impl<'a> Cursor<'a> {
         Cursor {
             bytes,
             rest: tokens,
+        }
+    }
+
+    /// A cursor at one of these tokens, by its number, or behind the last.
+    #[tactic(auto, using(crate::proofs::Readable::drop_words))]
+    pub fn at(bytes: &'a [u8], tokens: &'a [Token], from: usize) -> Cursor<'a>
+        requires found { Tokens bytes.now tokens.now }
+        requires inside { from ≤ length tokens.now }
+        ensures { result ≡ drop from (word.words bytes.now tokens.now) }
+    {
+        literals_have_values();
+        Cursor {
+            bytes,
+            rest: from_place(tokens, from),
         }
     }
 
