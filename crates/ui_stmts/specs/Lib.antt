@@ -58,3 +58,4 @@ pub mod ParamsGo
 pub mod NoBoth
 pub mod LengthOrParams
 pub mod Files
+pub mod Decides
