@@ -1,0 +1,6 @@
+pub mod Seen
+pub mod Nests
+pub mod Parts
+pub mod Pointers
+pub mod Branches
+pub mod Taken

@@ -1,0 +1,241 @@
+//! The entries of lists of parameters. Go specification, "Function types".
+
+ghost use Rattle.std.specs.Prelude.{◌≡◌, ◌-◌};
+ghost use Rattle.ui_parse.specs.Reader as reader;
+ghost use Rattle.ui_scan.specs.declared.kind.TokenKind.TheVariants.{Comma, RParen};
+ghost use Rattle.ui_syntax.specs.Cover.{as_type, only_type};
+ghost use Rattle.ui_ptype.specs.Parts.{covered};
+ghost use Rattle.ui_ptype.specs.Seen.{see, see_type, see_params, see_groups};
+ghost use Rattle.ui_parse.specs.View.{Reads};
+ghost use Rattle.ui_ptype.specs.Nests.{Nests};
+ghost use Rattle.ui_syntax.specs.Read.{readers};
+ghost use Rattle.ui_syntax.specs.Types as spec;
+
+use crate::cover::{into_type, is_type, is_type_alone};
+use crate::grammar::Grammar;
+use crate::params::Params;
+use crate::sub::{Groups, Sub, Subs, TypeSub, TypeSubs, deeper, type_sub};
+use std::alloc::Global;
+use ui_base::Spot;
+use ui_parse::{Cursor, ParseError, parts};
+use ui_scan::TokenKind;
+use ui_syntax::{Site, Style, TypeSite};
+use ui_tree::{Placed, TypeExpr};
+
+impl<E, T, B> Grammar<E, T, B>
+where
+    E: Fn(Global, &mut Cursor<'_>, u32, Site, u8) -> Result<Sub, ParseError>,
+    T: Fn(Global, &mut Cursor<'_>, u32, TypeSite) -> Result<Option<TypeSub>, ParseError>,
+    B: Fn(Global, &mut Cursor<'_>, u32) -> Result<Subs, ParseError>,
+{
+    /// The type that an expression's text is too; a fault where it is none.
+    pub fn cover_type(&self, words: &Cursor<'_>, cover: Sub) -> Result<TypeSub, ParseError>
+        ensures { Reads see_type (covered (see cover) (as_type (see cover).tree) words.now) result words.now }
+    {
+        let Sub { tree, spot, depth } = cover;
+        match into_type(self.alloc, tree.into_inner())? {
+            Some(of) => Ok(type_sub(self.alloc, of, spot, depth)?),
+            None => Err(ParseError::Fault),
+        }
+    }
+
+    // n [X], where X is no array's length.
+    fn add_argument(
+        &self,
+        words: &mut Cursor<'_>,
+        params: Params,
+        name: Placed,
+        cover: Sub,
+    ) -> Result<Params, ParseError>
+        requires { Nests self.now.budget (E.pre self.now.level) (E.post self.now.level) (T.pre self.now.maybe_type) (T.post self.now.maybe_type) (B.pre self.now.braces) (B.post self.now.braces) }
+        ensures { Reads see_params (spec.add_argument (self.now.budget - 1) (readers (self.now.budget - 1)) (see_params params) name (as_type (see cover).tree) cover.depth words.old) result words.new }
+    {
+        if !is_type(cover.tree.get()) {
+            return Err(ParseError::Fault);
+        }
+        let first = self.cover_type(words, cover)?;
+        let args = TypeSubs::only(self.alloc, first)?;
+        let of = self.with_args(name, None, args)?;
+        Ok(params.add_type(self.alloc, of)?)
+    }
+
+    // Behind n [X]: a type, of which X is the length, or none.
+    fn behind_bracket(
+        &self,
+        words: &mut Cursor<'_>,
+        params: Params,
+        name: Placed,
+        spot: Spot,
+        cover: Sub,
+    ) -> Result<Params, ParseError>
+        requires { Nests self.now.budget (E.pre self.now.level) (E.post self.now.level) (T.pre self.now.maybe_type) (T.post self.now.maybe_type) (B.pre self.now.braces) (B.post self.now.braces) }
+        ensures { Reads see_params (spec.behind_bracket (self.now.budget - 1) (readers (self.now.budget - 1)) (see_params params) name spot (see cover) (only_type (see cover).tree) words.old) result words.new }
+    {
+        if is_type_alone(cover.tree.get()) {
+            return self.add_argument(words, params, name, cover);
+        }
+        let Some(of) = self.maybe_lower_type(words)? else {
+            return self.add_argument(words, params, name, cover);
+        };
+        let depth = deeper(cover.depth.max(of.depth))?;
+        let array = type_sub(
+            self.alloc,
+            TypeExpr::array(spot, cover.tree, of.tree),
+            spot,
+            depth,
+        )?;
+        Ok(params.add_named(self.alloc, name, array)?)
+    }
+
+    // n [X, or n [X].
+    #[tactic(auto, unfolding(ui_parse::specs::Reader::take_by))]
+    fn behind_cover(
+        &self,
+        words: &mut Cursor<'_>,
+        params: Params,
+        name: Placed,
+        spot: Spot,
+        cover: Sub,
+    ) -> Result<Params, ParseError>
+        requires { Nests self.now.budget (E.pre self.now.level) (E.post self.now.level) (T.pre self.now.maybe_type) (T.post self.now.maybe_type) (B.pre self.now.braces) (B.post self.now.braces) }
+        ensures { Reads see_params (spec.behind_cover (self.now.budget - 1) (readers (self.now.budget - 1)) (see_params params) name spot (see cover) (as_type (see cover).tree) words.old) result words.new }
+    {
+        if is_type(cover.tree.get()) && words.take(TokenKind::Comma).is_some() {
+            let first = self.cover_type(words, cover)?;
+            let args = self.args_behind(words, true, first)?;
+            let of = self.with_args(name, None, args)?;
+            return Ok(params.add_type(self.alloc, of)?);
+        }
+        words.expect(TokenKind::RBracket)?;
+        self.behind_bracket(words, params, name, spot, cover)
+    }
+
+    // n [, whose bracket may be of a type's arguments or of a type.
+    #[tactic(auto, unfolding(ui_syntax::specs::Types::bracketed, ui_parse::specs::Reader::take_by))]
+    fn bracketed(
+        &self,
+        words: &mut Cursor<'_>,
+        params: Params,
+        name: Placed,
+        spot: Spot,
+    ) -> Result<Params, ParseError>
+        requires { Nests self.now.budget (E.pre self.now.level) (E.post self.now.level) (T.pre self.now.maybe_type) (T.post self.now.maybe_type) (B.pre self.now.braces) (B.post self.now.braces) }
+        ensures { Reads see_params (spec.bracketed (self.now.budget - 1) (readers (self.now.budget - 1)) (see_params params) name spot words.old) result words.new }
+    {
+        if words.take(TokenKind::RBracket).is_some() {
+            let of = self.a_lower_type(words)?;
+            let depth = deeper(of.depth)?;
+            let slice = type_sub(self.alloc, TypeExpr::slice(spot, of.tree), spot, depth)?;
+            return Ok(params.add_named(self.alloc, name, slice)?);
+        }
+        let cover = self.lower_level(words, Site::Argument, 1)?;
+        self.behind_cover(words, params, name, spot, cover)
+    }
+
+    fn maybe_named(
+        &self,
+        words: &mut Cursor<'_>,
+        params: Params,
+        name: Placed,
+    ) -> Result<Params, ParseError>
+        requires { Nests self.now.budget (E.pre self.now.level) (E.post self.now.level) (T.pre self.now.maybe_type) (T.post self.now.maybe_type) (B.pre self.now.braces) (B.post self.now.braces) }
+        ensures { Reads see_params (spec.maybe_named (self.now.budget - 1) (readers (self.now.budget - 1)) (see_params params) name words.old) result words.new }
+    {
+        match self.type_at(words, TypeSite::Plain)? {
+            Some(of) => Ok(params.add_named(self.alloc, name, of)?),
+            None => Ok(params.add_name(name)?),
+        }
+    }
+
+    // n.m [ TArgs ]
+    fn qualified(
+        &self,
+        words: &mut Cursor<'_>,
+        params: Params,
+        name: Placed,
+    ) -> Result<Params, ParseError>
+        requires { Nests self.now.budget (E.pre self.now.level) (E.post self.now.level) (T.pre self.now.maybe_type) (T.post self.now.maybe_type) (B.pre self.now.braces) (B.post self.now.braces) }
+        ensures { Reads see_params (spec.qualified (self.now.budget - 1) (readers (self.now.budget - 1)) (see_params params) name words.old) result words.new }
+    {
+        let member = words.expect_name(self.alloc)?;
+        let of = self.maybe_args(words, self.budget - 1, true, name, Some(member))?;
+        Ok(params.add_type(self.alloc, of)?)
+    }
+
+    // A first name, where it isn't said yet whether parameters have names.
+    #[tactic(auto, unfolding(ui_syntax::specs::Types::open_name, ui_parse::specs::Reader::take_by))]
+    fn open_name(
+        &self,
+        words: &mut Cursor<'_>,
+        params: Params,
+        name: Placed,
+    ) -> Result<Params, ParseError>
+        requires { Nests self.now.budget (E.pre self.now.level) (E.post self.now.level) (T.pre self.now.maybe_type) (T.post self.now.maybe_type) (B.pre self.now.braces) (B.post self.now.braces) }
+        ensures { Reads see_params (spec.open_name (self.now.budget - 1) (readers (self.now.budget - 1)) (see_params params) name words.old) result words.new }
+    {
+        if self.budget < 3 {
+            return self.maybe_named(words, params, name);
+        }
+        if words.take(TokenKind::Period).is_some() {
+            return self.qualified(words, params, name);
+        }
+        match words.take(TokenKind::LBracket) {
+            Some(spot) => self.bracketed(words, params, name, spot),
+            None => self.maybe_named(words, params, name),
+        }
+    }
+
+    fn bare_param(&self, words: &mut Cursor<'_>, params: Params) -> Result<Params, ParseError>
+        requires { Nests self.now.budget (E.pre self.now.level) (E.post self.now.level) (T.pre self.now.maybe_type) (T.post self.now.maybe_type) (B.pre self.now.braces) (B.post self.now.braces) }
+        ensures { Reads see_params (spec.bare_param (self.now.budget - 1) (readers (self.now.budget - 1)) (see_params params) words.old) result words.new }
+    {
+        let of = self.a_type(words)?;
+        Ok(params.add_type(self.alloc, of)?)
+    }
+
+    // [ name ] Type
+    #[tactic(auto, unfolding(ui_syntax::specs::Types::param, ui_parse::specs::Reader::take_by))]
+    fn param(&self, words: &mut Cursor<'_>, params: Params) -> Result<Params, ParseError>
+        requires { Nests self.now.budget (E.pre self.now.level) (E.post self.now.level) (T.pre self.now.maybe_type) (T.post self.now.maybe_type) (B.pre self.now.braces) (B.post self.now.braces) }
+        ensures { Reads see_params (spec.param (self.now.budget - 1) (readers (self.now.budget - 1)) (see_params params) words.old) result words.new }
+    {
+        if self.budget < 2 {
+            return Err(ParseError::Fault);
+        }
+        match params.style {
+            Style::Open => match words.take_name(self.alloc)? {
+                Some(name) => self.open_name(words, params, name),
+                None => self.bare_param(words, params),
+            },
+            Style::Bare => self.bare_param(words, params),
+            Style::Named => match words.take_name(self.alloc)? {
+                Some(name) => self.maybe_named(words, params, name),
+                None => Err(ParseError::Fault),
+            },
+        }
+    }
+
+    fn param_list(&self, words: &mut Cursor<'_>) -> Result<Params, ParseError>
+        requires { Nests self.now.budget (E.pre self.now.level) (E.post self.now.level) (T.pre self.now.maybe_type) (T.post self.now.maybe_type) (B.pre self.now.braces) (B.post self.now.braces) }
+        ensures { Reads see_params (reader.parts Comma RParen spec.params_ending (spec.param (self.now.budget - 1) (readers (self.now.budget - 1))) spec.no_params words.old) result words.new }
+    {
+        let params = Params::new(self.alloc);
+        parts(
+            words,
+            TokenKind::Comma,
+            TokenKind::RParen,
+            params,
+            &|words: &mut Cursor<'_>, params| self.param(words, params),
+        )
+    }
+
+    /// [ Param { "," Param } [ "," ] ] ")", in groups with one type.
+    #[tactic(auto, unfolding(ui_syntax::specs::Types::params))]
+    pub fn params(&self, words: &mut Cursor<'_>) -> Result<Groups, ParseError>
+        requires { Nests self.now.budget (E.pre self.now.level) (E.post self.now.level) (T.pre self.now.maybe_type) (T.post self.now.maybe_type) (B.pre self.now.braces) (B.post self.now.braces) }
+        ensures { Reads see_groups (spec.params (self.now.budget - 1) (readers (self.now.budget - 1)) words.old) result words.new }
+    {
+        let params = self.param_list(words)?;
+        Ok(params.into_groups(self.alloc)?)
+    }
+}

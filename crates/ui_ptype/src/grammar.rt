@@ -1,0 +1,152 @@
+//! The readers of a budget, over function values that read with a smaller one.
+
+ghost use Rattle.std.specs.Prelude.{◌≡◌, ◌-◌, ◌<◌};
+ghost use Rattle.ui_parse.specs.View.{Reads};
+ghost use Rattle.ui_syntax.specs.Types as spec;
+ghost use Rattle.ui_syntax.specs.Exprs as exprs;
+ghost use Rattle.ui_syntax.specs.Read.{readers};
+ghost use Rattle.ui_ptype.specs.Nests.{Nests};
+ghost use Rattle.ui_ptype.specs.Parts.{type_in};
+ghost use Rattle.ui_ptype.specs.Seen.{see, see_type, see_maybe, see_all};
+ghost use Rattle.ui_syntax.specs.declared.site.TypeSite.TheVariants as at;
+
+use crate::sub::{Sub, Subs, TypeSub};
+use std::alloc::Global;
+use ui_parse::{Cursor, ParseError};
+use ui_syntax::{Site, TypeSite};
+
+/// How deep a tree may be, and what reads its parts.
+#[derive(Clone, Copy)]
+pub struct Grammar<E, T, B>
+where
+    E: Fn(Global, &mut Cursor<'_>, u32, Site, u8) -> Result<Sub, ParseError>,
+    T: Fn(Global, &mut Cursor<'_>, u32, TypeSite) -> Result<Option<TypeSub>, ParseError>,
+    B: Fn(Global, &mut Cursor<'_>, u32) -> Result<Subs, ParseError>,
+{
+    pub alloc: Global,
+    pub budget: u32,
+    pub level: E,
+    pub maybe_type: T,
+    pub braces: B,
+}
+
+impl<E, T, B> Grammar<E, T, B>
+where
+    E: Fn(Global, &mut Cursor<'_>, u32, Site, u8) -> Result<Sub, ParseError>,
+    T: Fn(Global, &mut Cursor<'_>, u32, TypeSite) -> Result<Option<TypeSub>, ParseError>,
+    B: Fn(Global, &mut Cursor<'_>, u32) -> Result<Subs, ParseError>,
+{
+    /// An expression of one level less, whose operators bind at least so tightly.
+    pub fn level_at(&self, words: &mut Cursor<'_>, site: Site, least: u8) -> Result<Sub, ParseError>
+        requires { Nests self.now.budget (E.pre self.now.level) (E.post self.now.level) (T.pre self.now.maybe_type) (T.post self.now.maybe_type) (B.pre self.now.braces) (B.post self.now.braces) }
+        ensures { Reads see ((readers (self.now.budget - 1)).level site least words.old) result words.new }
+    {
+        (self.level)(self.alloc, words, self.budget - 1, site, least)
+    }
+
+    // The next lower budget than that of the parts: nothing where there is none.
+    #[tactic(auto, using(crate::proofs::CodeReaders::reads_lower))]
+    pub(crate) fn lower_level(
+        &self,
+        words: &mut Cursor<'_>,
+        site: Site,
+        least: u8,
+    ) -> Result<Sub, ParseError>
+        requires { Nests self.now.budget (E.pre self.now.level) (E.post self.now.level) (T.pre self.now.maybe_type) (T.post self.now.maybe_type) (B.pre self.now.braces) (B.post self.now.braces) }
+        ensures { Reads see ((readers (self.now.budget - 1)).lower_level site least words.old) result words.new }
+    {
+        (self.level)(
+            self.alloc,
+            words,
+            self.budget.saturating_sub(2),
+            site,
+            least,
+        )
+    }
+
+    /// A type of one level less, where one begins.
+    pub fn type_at(
+        &self,
+        words: &mut Cursor<'_>,
+        site: TypeSite,
+    ) -> Result<Option<TypeSub>, ParseError>
+        requires { Nests self.now.budget (E.pre self.now.level) (E.post self.now.level) (T.pre self.now.maybe_type) (T.post self.now.maybe_type) (B.pre self.now.braces) (B.post self.now.braces) }
+        ensures { Reads see_maybe ((readers (self.now.budget - 1)).maybe_type site words.old) result words.new }
+    {
+        (self.maybe_type)(self.alloc, words, self.budget - 1, site)
+    }
+
+    #[tactic(auto, using(crate::proofs::CodeReaders::reads_lower_type))]
+    pub(crate) fn maybe_lower_type(
+        &self,
+        words: &mut Cursor<'_>,
+    ) -> Result<Option<TypeSub>, ParseError>
+        requires { Nests self.now.budget (E.pre self.now.level) (E.post self.now.level) (T.pre self.now.maybe_type) (T.post self.now.maybe_type) (B.pre self.now.braces) (B.post self.now.braces) }
+        ensures { Reads see_maybe ((readers (self.now.budget - 1)).lower_maybe_type at.Plain words.old) result words.new }
+    {
+        (self.maybe_type)(
+            self.alloc,
+            words,
+            self.budget.saturating_sub(2),
+            TypeSite::Plain,
+        )
+    }
+
+    /// A type of one level less.
+    pub fn a_type(&self, words: &mut Cursor<'_>) -> Result<TypeSub, ParseError>
+        requires { Nests self.now.budget (E.pre self.now.level) (E.post self.now.level) (T.pre self.now.maybe_type) (T.post self.now.maybe_type) (B.pre self.now.braces) (B.post self.now.braces) }
+        ensures { Reads see_type (spec.a_type (self.now.budget - 1) (readers (self.now.budget - 1)) words.old) result words.new }
+    {
+        match self.type_at(words, TypeSite::Plain)? {
+            Some(of) => Ok(of),
+            None => Err(ParseError::Fault),
+        }
+    }
+
+    pub(crate) fn a_lower_type(&self, words: &mut Cursor<'_>) -> Result<TypeSub, ParseError>
+        requires { Nests self.now.budget (E.pre self.now.level) (E.post self.now.level) (T.pre self.now.maybe_type) (T.post self.now.maybe_type) (B.pre self.now.braces) (B.post self.now.braces) }
+        ensures { Reads see_type (spec.a_lower_type (self.now.budget - 1) (readers (self.now.budget - 1)) words.old) result words.new }
+    {
+        match self.maybe_lower_type(words)? {
+            Some(of) => Ok(of),
+            None => Err(ParseError::Fault),
+        }
+    }
+
+    pub(crate) fn type_in(&self, words: &mut Cursor<'_>, lower: bool) -> Result<TypeSub, ParseError>
+        requires { Nests self.now.budget (E.pre self.now.level) (E.post self.now.level) (T.pre self.now.maybe_type) (T.post self.now.maybe_type) (B.pre self.now.braces) (B.post self.now.braces) }
+        ensures { Reads see_type (type_in (self.now.budget - 1) (readers (self.now.budget - 1)) lower words.old) result words.new }
+    {
+        if lower {
+            self.a_lower_type(words)
+        } else {
+            self.a_type(words)
+        }
+    }
+
+    pub(crate) fn an_element(&self, words: &mut Cursor<'_>) -> Result<TypeSub, ParseError>
+        requires { Nests self.now.budget (E.pre self.now.level) (E.post self.now.level) (T.pre self.now.maybe_type) (T.post self.now.maybe_type) (B.pre self.now.braces) (B.post self.now.braces) }
+        ensures { Reads see_type (spec.an_element (self.now.budget - 1) (readers (self.now.budget - 1)) words.old) result words.new }
+    {
+        match self.type_at(words, TypeSite::Element)? {
+            Some(of) => Ok(of),
+            None => Err(ParseError::Fault),
+        }
+    }
+
+    /// An expression of one level less.
+    pub fn an_expr(&self, words: &mut Cursor<'_>) -> Result<Sub, ParseError>
+        requires { Nests self.now.budget (E.pre self.now.level) (E.post self.now.level) (T.pre self.now.maybe_type) (T.post self.now.maybe_type) (B.pre self.now.braces) (B.post self.now.braces) }
+        ensures { Reads see (exprs.an_expr (self.now.budget - 1) (readers (self.now.budget - 1)) words.old) result words.new }
+    {
+        self.level_at(words, Site::Plain, 1)
+    }
+
+    /// The elements of a literal of one level less, behind its brace.
+    pub fn nested_braces(&self, words: &mut Cursor<'_>) -> Result<Subs, ParseError>
+        requires { Nests self.now.budget (E.pre self.now.level) (E.post self.now.level) (T.pre self.now.maybe_type) (T.post self.now.maybe_type) (B.pre self.now.braces) (B.post self.now.braces) }
+        ensures { Reads see_all ((readers (self.now.budget - 1)).braces words.old) result words.new }
+    {
+        (self.braces)(self.alloc, words, self.budget - 1)
+    }
+}

@@ -1,0 +1,102 @@
+//! Results and signatures. Go specification, "Function types".
+
+ghost use Rattle.std.specs.Prelude.{◌≡◌, ◌-◌};
+ghost use Rattle.std.specs.Option.{option_map};
+ghost use Rattle.ui_tree.specs.View.{type_view, maybe_type};
+ghost use Rattle.ui_ptype.specs.Seen.{see_type, see_results, results_tree, results_depth};
+ghost use Rattle.ui_parse.specs.View.{Reads};
+ghost use Rattle.ui_ptype.specs.Nests.{Nests};
+ghost use Rattle.ui_syntax.specs.Read.{readers};
+ghost use Rattle.ui_syntax.specs.Types as spec;
+
+use crate::grammar::Grammar;
+use crate::sub::{Groups, Sub, Subs, TypeSub, deeper, type_sub};
+use std::alloc::Global;
+use ui_base::Spot;
+use ui_parse::{Cursor, ParseError};
+use ui_scan::TokenKind;
+use ui_syntax::{Site, TypeSite};
+use ui_tree::{Boxed, Placed, Sig, TypeExpr};
+
+// The tree of results with its depth.
+fn result_of(results: Option<TypeSub>) -> (Option<Boxed<TypeExpr>>, u32)
+    ensures tree { maybe_type (option_map type_view result.0) ≡ results_tree results }
+    ensures depth { result.1 ≡ results_depth results }
+{
+    match results {
+        Some(
+            TypeSub {
+                tree,
+                spot: _,
+                depth,
+            },
+        ) => (Some(tree), depth),
+        None => (None, 0),
+    }
+}
+
+impl<E, T, B> Grammar<E, T, B>
+where
+    E: Fn(Global, &mut Cursor<'_>, u32, Site, u8) -> Result<Sub, ParseError>,
+    T: Fn(Global, &mut Cursor<'_>, u32, TypeSite) -> Result<Option<TypeSub>, ParseError>,
+    B: Fn(Global, &mut Cursor<'_>, u32) -> Result<Subs, ParseError>,
+{
+    /// [ Type | Params ]. Parameters are a list of results, which only a signature has.
+    #[tactic(auto, unfolding(ui_syntax::specs::Types::results, ui_parse::specs::Reader::take_by))]
+    pub fn results(&self, words: &mut Cursor<'_>) -> Result<Option<TypeSub>, ParseError>
+        requires { Nests self.now.budget (E.pre self.now.level) (E.post self.now.level) (T.pre self.now.maybe_type) (T.post self.now.maybe_type) (B.pre self.now.braces) (B.post self.now.braces) }
+        ensures { Reads (see_results (self.now.budget - 1) (readers (self.now.budget - 1))) (spec.results (self.now.budget - 1) (readers (self.now.budget - 1)) words.old) result words.new }
+    {
+        if let Some(spot) = words.take(TokenKind::LParen) {
+            let Groups { items, depth } = self.params(words)?;
+            return Ok(Some(type_sub(self.alloc, TypeExpr::listed(spot, items), spot, depth)?));
+        }
+        self.type_at(words, TypeSite::Plain)
+    }
+
+    /// The func type of a signature, behind its parenthesis.
+    #[tactic(auto, unfolding(ui_syntax::specs::Types::signature))]
+    pub fn sig_type(&self, words: &mut Cursor<'_>, spot: Spot) -> Result<TypeSub, ParseError>
+        requires { Nests self.now.budget (E.pre self.now.level) (E.post self.now.level) (T.pre self.now.maybe_type) (T.post self.now.maybe_type) (B.pre self.now.braces) (B.post self.now.braces) }
+        ensures { Reads see_type (spec.signature (self.now.budget - 1) (readers (self.now.budget - 1)) (spec.func_of (self.now.budget - 1) (readers (self.now.budget - 1)) spot) words.old) result words.new }
+    {
+        let params = self.params(words)?;
+        let results = self.results(words)?;
+        let (results, deepest) = result_of(results);
+        let depth = deeper(params.depth.max(deepest))?;
+        let sig = Sig {
+            params: params.items,
+            results,
+        };
+        Ok(type_sub(self.alloc, TypeExpr::func(spot, sig), spot, depth)?)
+    }
+
+    #[tactic(auto, unfolding(ui_syntax::specs::Types::signature))]
+    pub(crate) fn method(&self, words: &mut Cursor<'_>, name: Placed) -> Result<TypeSub, ParseError>
+        requires { Nests self.now.budget (E.pre self.now.level) (E.post self.now.level) (T.pre self.now.maybe_type) (T.post self.now.maybe_type) (B.pre self.now.braces) (B.post self.now.braces) }
+        ensures { Reads see_type (spec.signature (self.now.budget - 1) (readers (self.now.budget - 1)) (spec.method_of (self.now.budget - 1) (readers (self.now.budget - 1)) name) words.old) result words.new }
+    {
+        let params = self.params(words)?;
+        let results = self.results(words)?;
+        let (results, deepest) = result_of(results);
+        let depth = deeper(params.depth.max(deepest))?;
+        let sig = Sig {
+            params: params.items,
+            results,
+        };
+        let spot = name.spot;
+        Ok(type_sub(self.alloc, TypeExpr::method(name, sig), spot, depth)?)
+    }
+
+    pub(crate) fn func_type(
+        &self,
+        words: &mut Cursor<'_>,
+        spot: Spot,
+    ) -> Result<TypeSub, ParseError>
+        requires { Nests self.now.budget (E.pre self.now.level) (E.post self.now.level) (T.pre self.now.maybe_type) (T.post self.now.maybe_type) (B.pre self.now.braces) (B.post self.now.braces) }
+        ensures { Reads see_type (spec.func_type (self.now.budget - 1) (readers (self.now.budget - 1)) spot words.old) result words.new }
+    {
+        words.expect(TokenKind::LParen)?;
+        self.sig_type(words, spot)
+    }
+}

@@ -1,0 +1,240 @@
+//! Types. Go specification, "Types".
+
+ghost use Rattle.std.specs.Prelude.{◌≡◌, ◌-◌, None};
+ghost use Rattle.ui_parse.specs.Reader.{pure};
+ghost use Rattle.ui_ptype.specs.Parts.{type_in};
+ghost use Rattle.ui_ptype.specs.Seen.{see_type, see_maybe};
+ghost use Rattle.ui_parse.specs.View.{Reads};
+ghost use Rattle.ui_ptype.specs.Nests.{Nests};
+ghost use Rattle.ui_syntax.specs.Read.{readers};
+ghost use Rattle.ui_syntax.specs.Types as spec;
+
+use crate::grammar::Grammar;
+use crate::sub::{Sub, Subs, TypeSub, deeper, type_sub};
+use std::alloc::Global;
+use ui_base::Spot;
+use ui_parse::{Cursor, ParseError};
+use ui_scan::TokenKind;
+use ui_syntax::{Site, TypeSite};
+use ui_tree::TypeExpr;
+
+impl<E, T, B> Grammar<E, T, B>
+where
+    E: Fn(Global, &mut Cursor<'_>, u32, Site, u8) -> Result<Sub, ParseError>,
+    T: Fn(Global, &mut Cursor<'_>, u32, TypeSite) -> Result<Option<TypeSub>, ParseError>,
+    B: Fn(Global, &mut Cursor<'_>, u32) -> Result<Subs, ParseError>,
+{
+    fn map_type(&self, words: &mut Cursor<'_>, spot: Spot) -> Result<TypeSub, ParseError>
+        requires { Nests self.now.budget (E.pre self.now.level) (E.post self.now.level) (T.pre self.now.maybe_type) (T.post self.now.maybe_type) (B.pre self.now.braces) (B.post self.now.braces) }
+        ensures { Reads see_type (spec.map_type (self.now.budget - 1) (readers (self.now.budget - 1)) spot words.old) result words.new }
+    {
+        words.expect(TokenKind::LBracket)?;
+        let key = self.a_type(words)?;
+        words.expect(TokenKind::RBracket)?;
+        let of = self.a_type(words)?;
+        let depth = deeper(key.depth.max(of.depth))?;
+        Ok(type_sub(
+            self.alloc,
+            TypeExpr::map(spot, key.tree, of.tree),
+            spot,
+            depth,
+        )?)
+    }
+
+    fn array_type(&self, words: &mut Cursor<'_>, spot: Spot) -> Result<TypeSub, ParseError>
+        requires { Nests self.now.budget (E.pre self.now.level) (E.post self.now.level) (T.pre self.now.maybe_type) (T.post self.now.maybe_type) (B.pre self.now.braces) (B.post self.now.braces) }
+        ensures { Reads see_type (spec.array_type (self.now.budget - 1) (readers (self.now.budget - 1)) spot words.old) result words.new }
+    {
+        let len = self.level_at(words, Site::Plain, 1)?;
+        words.expect(TokenKind::RBracket)?;
+        let of = self.a_type(words)?;
+        let depth = deeper(len.depth.max(of.depth))?;
+        Ok(type_sub(
+            self.alloc,
+            TypeExpr::array(spot, len.tree, of.tree),
+            spot,
+            depth,
+        )?)
+    }
+
+    fn counted_type(
+        &self,
+        words: &mut Cursor<'_>,
+        lower: bool,
+        spot: Spot,
+    ) -> Result<TypeSub, ParseError>
+        requires { Nests self.now.budget (E.pre self.now.level) (E.post self.now.level) (T.pre self.now.maybe_type) (T.post self.now.maybe_type) (B.pre self.now.braces) (B.post self.now.braces) }
+        ensures { Reads see_type (spec.counted_type (self.now.budget - 1) (readers (self.now.budget - 1)) (type_in (self.now.budget - 1) (readers (self.now.budget - 1)) lower) spot words.old) result words.new }
+    {
+        words.expect(TokenKind::RBracket)?;
+        let of = self.type_in(words, lower)?;
+        let depth = deeper(of.depth)?;
+        Ok(type_sub(self.alloc, TypeExpr::counted(spot, of.tree), spot, depth)?)
+    }
+
+    // [...]T has a literal behind it, for which there has to be room.
+    #[tactic(auto, unfolding(ui_parse::specs::Reader::take_by))]
+    fn counted_or_array(
+        &self,
+        words: &mut Cursor<'_>,
+        site: TypeSite,
+        spot: Spot,
+    ) -> Result<TypeSub, ParseError>
+        requires { Nests self.now.budget (E.pre self.now.level) (E.post self.now.level) (T.pre self.now.maybe_type) (T.post self.now.maybe_type) (B.pre self.now.braces) (B.post self.now.braces) }
+        ensures { Reads see_type (spec.counted_or_array (self.now.budget - 1) (readers (self.now.budget - 1)) site spot words.old) result words.new }
+    {
+        let lower = match site {
+            TypeSite::Plain | TypeSite::Element => return self.array_type(words, spot),
+            TypeSite::Operand => false,
+            TypeSite::Argument => true,
+        };
+        if (!lower || self.budget >= 3) && words.take(TokenKind::Ellipsis).is_some() {
+            return self.counted_type(words, lower, spot);
+        }
+        self.array_type(words, spot)
+    }
+
+    /// A slice or an array, behind its bracket.
+    #[tactic(auto, unfolding(ui_syntax::specs::Types::bracket_type, ui_parse::specs::Reader::take_by))]
+    pub fn bracket_type(
+        &self,
+        words: &mut Cursor<'_>,
+        site: TypeSite,
+        spot: Spot,
+    ) -> Result<TypeSub, ParseError>
+        requires { Nests self.now.budget (E.pre self.now.level) (E.post self.now.level) (T.pre self.now.maybe_type) (T.post self.now.maybe_type) (B.pre self.now.braces) (B.post self.now.braces) }
+        ensures { Reads see_type (spec.bracket_type (self.now.budget - 1) (readers (self.now.budget - 1)) site spot words.old) result words.new }
+    {
+        if words.take(TokenKind::RBracket).is_none() {
+            return self.counted_or_array(words, site, spot);
+        }
+        let of = self.a_type(words)?;
+        let depth = deeper(of.depth)?;
+        Ok(type_sub(self.alloc, TypeExpr::slice(spot, of.tree), spot, depth)?)
+    }
+
+    #[tactic(auto, unfolding(ui_parse::specs::Reader::take_by))]
+    fn deep_type(
+        &self,
+        words: &mut Cursor<'_>,
+        site: TypeSite,
+    ) -> Result<Option<TypeSub>, ParseError>
+        requires { Nests self.now.budget (E.pre self.now.level) (E.post self.now.level) (T.pre self.now.maybe_type) (T.post self.now.maybe_type) (B.pre self.now.braces) (B.post self.now.braces) }
+        ensures { Reads see_maybe (spec.deep_type (self.now.budget - 1) (readers (self.now.budget - 1)) site (pure None) words.old) result words.new }
+    {
+        if self.budget < 2 {
+            return Ok(None);
+        }
+        if let Some(spot) = words.take(TokenKind::LBracket) {
+            return Ok(Some(self.bracket_type(words, site, spot)?));
+        }
+        match words.take(TokenKind::Map) {
+            Some(spot) => Ok(Some(self.map_type(words, spot)?)),
+            None => Ok(None),
+        }
+    }
+
+    // Types that no expression begins with.
+    #[tactic(auto, unfolding(ui_syntax::specs::Types::operand_type, ui_parse::specs::Reader::take_by))]
+    pub(crate) fn operand_type(
+        &self,
+        words: &mut Cursor<'_>,
+        site: TypeSite,
+    ) -> Result<Option<TypeSub>, ParseError>
+        requires { Nests self.now.budget (E.pre self.now.level) (E.post self.now.level) (T.pre self.now.maybe_type) (T.post self.now.maybe_type) (B.pre self.now.braces) (B.post self.now.braces) }
+        ensures { Reads see_maybe (spec.operand_type (self.now.budget - 1) (readers (self.now.budget - 1)) site (pure None) words.old) result words.new }
+    {
+        if let Some(spot) = words.take(TokenKind::Func) {
+            return Ok(Some(self.func_type(words, spot)?));
+        }
+        if let Some(spot) = words.take(TokenKind::Struct) {
+            return Ok(Some(self.struct_type(words, spot)?));
+        }
+        match words.take(TokenKind::Interface) {
+            Some(spot) => Ok(Some(self.interface_type(words, spot)?)),
+            None => self.deep_type(words, site),
+        }
+    }
+
+    fn pointer_type(&self, words: &mut Cursor<'_>, spot: Spot) -> Result<TypeSub, ParseError>
+        requires { Nests self.now.budget (E.pre self.now.level) (E.post self.now.level) (T.pre self.now.maybe_type) (T.post self.now.maybe_type) (B.pre self.now.braces) (B.post self.now.braces) }
+        ensures { Reads see_type (spec.pointer_type (self.now.budget - 1) (readers (self.now.budget - 1)) spot words.old) result words.new }
+    {
+        let of = self.a_type(words)?;
+        let depth = deeper(of.depth)?;
+        Ok(type_sub(self.alloc, TypeExpr::pointer(spot, of.tree), spot, depth)?)
+    }
+
+    fn parenthesized_type(&self, words: &mut Cursor<'_>, spot: Spot) -> Result<TypeSub, ParseError>
+        requires { Nests self.now.budget (E.pre self.now.level) (E.post self.now.level) (T.pre self.now.maybe_type) (T.post self.now.maybe_type) (B.pre self.now.braces) (B.post self.now.braces) }
+        ensures { Reads see_type (spec.parenthesized_type (self.now.budget - 1) (readers (self.now.budget - 1)) spot words.old) result words.new }
+    {
+        let of = self.a_type(words)?;
+        words.expect(TokenKind::RParen)?;
+        let depth = deeper(of.depth)?;
+        Ok(type_sub(
+            self.alloc,
+            TypeExpr::parenthesized(spot, of.tree),
+            spot,
+            depth,
+        )?)
+    }
+
+    #[tactic(auto, unfolding(ui_parse::specs::Reader::take_by))]
+    fn marked_type(&self, words: &mut Cursor<'_>) -> Result<Option<TypeSub>, ParseError>
+        requires { Nests self.now.budget (E.pre self.now.level) (E.post self.now.level) (T.pre self.now.maybe_type) (T.post self.now.maybe_type) (B.pre self.now.braces) (B.post self.now.braces) }
+        ensures { Reads see_maybe (spec.marked_type (self.now.budget - 1) (readers (self.now.budget - 1)) words.old) result words.new }
+    {
+        if self.budget < 2 {
+            return Ok(None);
+        }
+        if let Some(spot) = words.take(TokenKind::Mul) {
+            return Ok(Some(self.pointer_type(words, spot)?));
+        }
+        match words.take(TokenKind::LParen) {
+            Some(spot) => Ok(Some(self.parenthesized_type(words, spot)?)),
+            None => Ok(None),
+        }
+    }
+
+    // A type without a name.
+    #[tactic(auto, using(crate::proofs::CodeReaders::reads_other))]
+    pub(crate) fn other_type(&self, words: &mut Cursor<'_>) -> Result<Option<TypeSub>, ParseError>
+        requires { Nests self.now.budget (E.pre self.now.level) (E.post self.now.level) (T.pre self.now.maybe_type) (T.post self.now.maybe_type) (B.pre self.now.braces) (B.post self.now.braces) }
+        ensures { Reads see_maybe (spec.other_type (self.now.budget - 1) (readers (self.now.budget - 1)) words.old) result words.new }
+    {
+        match self.operand_type(words, TypeSite::Plain)? {
+            Some(of) => Ok(Some(of)),
+            None => self.marked_type(words),
+        }
+    }
+
+    /// A type within the budget, where one begins.
+    #[tactic(auto, unfolding(ui_syntax::specs::Types::plain_type, ui_parse::specs::Reader::take_by))]
+    pub fn plain_type(&self, words: &mut Cursor<'_>) -> Result<Option<TypeSub>, ParseError>
+        requires { Nests self.now.budget (E.pre self.now.level) (E.post self.now.level) (T.pre self.now.maybe_type) (T.post self.now.maybe_type) (B.pre self.now.braces) (B.post self.now.braces) }
+        ensures { Reads see_maybe (spec.plain_type (self.now.budget - 1) (readers (self.now.budget - 1)) words.old) result words.new }
+    {
+        match words.take_name(self.alloc)? {
+            Some(name) => Ok(Some(self.named_type(words, name)?)),
+            None => self.other_type(words),
+        }
+    }
+
+    /// A type within the budget as its site takes one, where one begins.
+    #[tactic(auto, unfolding(ui_syntax::specs::Types::maybe_type))]
+    pub fn own_type(
+        &self,
+        words: &mut Cursor<'_>,
+        site: TypeSite,
+    ) -> Result<Option<TypeSub>, ParseError>
+        requires { Nests self.now.budget (E.pre self.now.level) (E.post self.now.level) (T.pre self.now.maybe_type) (T.post self.now.maybe_type) (B.pre self.now.braces) (B.post self.now.braces) }
+        ensures { Reads see_maybe (spec.maybe_type (self.now.budget - 1) (readers (self.now.budget - 1)) site words.old) result words.new }
+    {
+        match site {
+            TypeSite::Plain => self.plain_type(words),
+            TypeSite::Element => self.element(words),
+            TypeSite::Operand | TypeSite::Argument => self.operand_type(words, site),
+        }
+    }
+}

@@ -1,0 +1,131 @@
+//! Terms, unions and elements of interfaces. Go specification, "Interface types".
+
+ghost use Rattle.std.specs.Prelude.{◌≡◌, ◌-◌};
+ghost use Rattle.ui_parse.specs.Reader as reader;
+ghost use Rattle.ui_scan.specs.declared.kind.TokenKind.TheVariants.{Or};
+ghost use Rattle.ui_ptype.specs.Parts.{own_plain, tilde_type, named_element};
+ghost use Rattle.ui_ptype.specs.Seen.{see_type, see_maybe, see_types};
+ghost use Rattle.ui_parse.specs.View.{Reads};
+ghost use Rattle.ui_ptype.specs.Nests.{Nests};
+ghost use Rattle.ui_syntax.specs.Read.{readers};
+ghost use Rattle.ui_syntax.specs.Types as spec;
+
+use crate::grammar::Grammar;
+use crate::sub::{Sub, Subs, TypeSub, TypeSubs, type_sub};
+use std::alloc::Global;
+use ui_base::Spot;
+use ui_parse::{Cursor, ParseError, chain};
+use ui_scan::TokenKind;
+use ui_syntax::{Site, TypeSite};
+use ui_tree::{Placed, TypeExpr};
+
+impl<E, T, B> Grammar<E, T, B>
+where
+    E: Fn(Global, &mut Cursor<'_>, u32, Site, u8) -> Result<Sub, ParseError>,
+    T: Fn(Global, &mut Cursor<'_>, u32, TypeSite) -> Result<Option<TypeSub>, ParseError>,
+    B: Fn(Global, &mut Cursor<'_>, u32) -> Result<Subs, ParseError>,
+{
+    fn own_plain(&self, words: &mut Cursor<'_>) -> Result<TypeSub, ParseError>
+        requires { Nests self.now.budget (E.pre self.now.level) (E.post self.now.level) (T.pre self.now.maybe_type) (T.post self.now.maybe_type) (B.pre self.now.braces) (B.post self.now.braces) }
+        ensures { Reads see_type (own_plain (self.now.budget - 1) (readers (self.now.budget - 1)) words.old) result words.new }
+    {
+        match self.plain_type(words)? {
+            Some(of) => Ok(of),
+            None => Err(ParseError::Fault),
+        }
+    }
+
+    /// A term's type, behind "~".
+    pub fn tilde(&self, words: &mut Cursor<'_>, spot: Spot) -> Result<TypeSub, ParseError>
+        requires { Nests self.now.budget (E.pre self.now.level) (E.post self.now.level) (T.pre self.now.maybe_type) (T.post self.now.maybe_type) (B.pre self.now.braces) (B.post self.now.braces) }
+        ensures { Reads see_type (tilde_type (self.now.budget - 1) (readers (self.now.budget - 1)) spot words.old) result words.new }
+    {
+        let of = self.own_plain(words)?;
+        let depth = of.depth;
+        Ok(type_sub(self.alloc, TypeExpr::tilde(spot, of.tree), spot, depth)?)
+    }
+
+    // [ "~" ] Type
+    #[tactic(auto, unfolding(ui_syntax::specs::Types::term, ui_parse::specs::Reader::take_by))]
+    fn term(&self, words: &mut Cursor<'_>) -> Result<TypeSub, ParseError>
+        requires { Nests self.now.budget (E.pre self.now.level) (E.post self.now.level) (T.pre self.now.maybe_type) (T.post self.now.maybe_type) (B.pre self.now.braces) (B.post self.now.braces) }
+        ensures { Reads see_type (spec.term (self.now.budget - 1) (readers (self.now.budget - 1)) words.old) result words.new }
+    {
+        match words.take(TokenKind::Tilde) {
+            Some(spot) => self.tilde(words, spot),
+            None => self.own_plain(words),
+        }
+    }
+
+    fn one_more_term(&self, words: &mut Cursor<'_>, terms: TypeSubs) -> Result<TypeSubs, ParseError>
+        requires { Nests self.now.budget (E.pre self.now.level) (E.post self.now.level) (T.pre self.now.maybe_type) (T.post self.now.maybe_type) (B.pre self.now.braces) (B.post self.now.braces) }
+        ensures { Reads see_types (spec.one_more (spec.term (self.now.budget - 1) (readers (self.now.budget - 1))) (see_types terms) words.old) result words.new }
+    {
+        let next = self.term(words)?;
+        Ok(terms.add(next)?)
+    }
+
+    fn more_terms(&self, words: &mut Cursor<'_>, first: TypeSub) -> Result<TypeSubs, ParseError>
+        requires { Nests self.now.budget (E.pre self.now.level) (E.post self.now.level) (T.pre self.now.maybe_type) (T.post self.now.maybe_type) (B.pre self.now.braces) (B.post self.now.braces) }
+        ensures { Reads see_types (reader.chain Or (spec.one_more (spec.term (self.now.budget - 1) (readers (self.now.budget - 1)))) (spec.only (see_type first).tree first.depth) words.old) result words.new }
+    {
+        let terms = TypeSubs::only(self.alloc, first)?;
+        chain(
+            words,
+            TokenKind::Or,
+            terms,
+            &|words: &mut Cursor<'_>, terms| self.one_more_term(words, terms),
+        )
+    }
+
+    /// { "|" Term } behind a first term, as the union of them.
+    #[tactic(auto, unfolding(ui_syntax::specs::Types::union_from))]
+    pub fn union_from(
+        &self,
+        words: &mut Cursor<'_>,
+        first: TypeSub,
+    ) -> Result<Option<TypeSub>, ParseError>
+        requires { Nests self.now.budget (E.pre self.now.level) (E.post self.now.level) (T.pre self.now.maybe_type) (T.post self.now.maybe_type) (B.pre self.now.braces) (B.post self.now.braces) }
+        ensures { Reads see_maybe (spec.union_from (self.now.budget - 1) (readers (self.now.budget - 1)) (see_type first) words.old) result words.new }
+    {
+        let spot = first.spot;
+        let TypeSubs { items, depth } = self.more_terms(words, first)?;
+        Ok(Some(type_sub(self.alloc, TypeExpr::union(spot, items), spot, depth)?))
+    }
+
+    // Behind a name: Sig, or the rest of a term and more terms.
+    #[tactic(auto, unfolding(ui_parse::specs::Reader::take_by))]
+    fn named_element(
+        &self,
+        words: &mut Cursor<'_>,
+        name: Placed,
+    ) -> Result<Option<TypeSub>, ParseError>
+        requires { Nests self.now.budget (E.pre self.now.level) (E.post self.now.level) (T.pre self.now.maybe_type) (T.post self.now.maybe_type) (B.pre self.now.braces) (B.post self.now.braces) }
+        ensures { Reads see_maybe (named_element (self.now.budget - 1) (readers (self.now.budget - 1)) name words.old) result words.new }
+    {
+        if words.take(TokenKind::LParen).is_some() {
+            return Ok(Some(self.method(words, name)?));
+        }
+        let first = self.named_type(words, name)?;
+        self.union_from(words, first)
+    }
+
+    // name Sig | Term { "|" Term }
+    #[tactic(auto, unfolding(ui_syntax::specs::Types::element, ui_parse::specs::Reader::take_by))]
+    pub(crate) fn element(&self, words: &mut Cursor<'_>) -> Result<Option<TypeSub>, ParseError>
+        requires { Nests self.now.budget (E.pre self.now.level) (E.post self.now.level) (T.pre self.now.maybe_type) (T.post self.now.maybe_type) (B.pre self.now.braces) (B.post self.now.braces) }
+        ensures { Reads see_maybe (spec.element (self.now.budget - 1) (readers (self.now.budget - 1)) words.old) result words.new }
+    {
+        if let Some(name) = words.take_name(self.alloc)? {
+            return self.named_element(words, name);
+        }
+        if let Some(spot) = words.take(TokenKind::Tilde) {
+            let first = self.tilde(words, spot)?;
+            return self.union_from(words, first);
+        }
+        match self.other_type(words)? {
+            Some(first) => self.union_from(words, first),
+            None => Ok(None),
+        }
+    }
+}
