@@ -1,0 +1,6 @@
+pub mod Seen
+pub mod Turns
+pub mod Faults
+pub mod Answers
+pub mod Parsed
+pub mod Laws

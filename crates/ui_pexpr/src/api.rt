@@ -1,0 +1,243 @@
+//! The calls of other crates: a form from the front of tokens, or where none goes on.
+
+ghost use Rattle.std.specs.Prelude.{◌≡◌, ◌+◌, ◌≤◌, ◌<◌, ◌-◌, IfOk, length, drop};
+ghost use Rattle.ui_grammar.specs.Parse.{HasExpr, HasType, HasSig};
+ghost use Rattle.ui_grammar.specs.Word.{words};
+ghost use Rattle.ui_pexpr.specs.Answers.{Answers, TellsLeft, left_of};
+ghost use Rattle.ui_pexpr.specs.Parsed.{Parsed, place};
+ghost use Rattle.ui_scan.specs.Tokens.{Tokens};
+ghost use Rattle.ui_syntax.specs.Read.{expr, type, sig as sig_of};
+ghost use Rattle.ui_tree.specs.View.{view, type_view};
+
+use crate::fault::{FURTHER_LEVELS, ParseFault, fault_at};
+use crate::parts::{expr_of_budget, sig, type_of_budget};
+use std::alloc::{AllocError, Global};
+use ui_base::NoMemory;
+use ui_parse::{Cursor, ParseError};
+use ui_scan::Token;
+use ui_tree::{ExprTree, TypeExpr};
+
+/// The greatest depth of a tree.
+const DEEPEST: u32 = 200;
+
+// A file's tokens, and where reading begins.
+#[derive(Drop)]
+struct Reading<'a> {
+    bytes: &'a [u8],
+    tokens: &'a [Token],
+    from: usize,
+}
+
+impl<'a> Reading<'a> {
+    fn start(&self) -> Cursor<'a>
+        requires scanned { Tokens self.now.bytes.now self.now.tokens.now }
+        requires inside { self.now.from ≤ length self.now.tokens.now }
+        ensures { result ≡ drop self.now.from (words self.now.bytes.now self.now.tokens.now) }
+    {
+        Cursor::at(self.bytes, self.tokens, self.from)
+    }
+
+    // How many tokens stand before those that are left.
+    fn end(&self, left: usize) -> usize
+        ensures { result ≡ length self.now.tokens.now - left }
+    {
+        self.tokens.len().saturating_sub(left)
+    }
+
+    fn rest(&self, left: usize) -> &'a [Token]
+        ensures { result.now ≡ drop (length self.now.tokens.now - left) self.now.tokens.now }
+    {
+        let end = self.end(left);
+        &self.tokens[end..]
+    }
+
+    // The fault where so many words are left, and so many by a reading with more levels.
+    fn fault(&self, left: usize, further: usize) -> ParseFault
+        ensures { TellsLeft self.now.bytes.now self.now.tokens.now left further result }
+    {
+        fault_at(self.bytes, self.rest(left), further, left)
+    }
+
+    // How many words a reading with more levels leaves.
+    fn further_expr(&self, alloc: Global, header: bool, budget: u32) -> Result<usize, NoMemory>
+        requires scanned { Tokens self.now.bytes.now self.now.tokens.now }
+        requires inside { self.now.from ≤ length self.now.tokens.now }
+        ensures { IfOk result (λ n. n ≡ left_of (expr budget header (drop self.now.from (words self.now.bytes.now self.now.tokens.now)))) }
+    {
+        let mut words = self.start();
+        match expr_of_budget(alloc, &mut words, budget, header) {
+            Ok(_) => Ok(words.left()),
+            Err(ParseError::Fault) => Ok(words.left()),
+            Err(ParseError::NoMemory) => Err(AllocError),
+        }
+    }
+
+    fn expr(
+        &self,
+        alloc: Global,
+        header: bool,
+        budget: u32,
+    ) -> Result<(ExprTree, usize), ParseFault>
+        requires scanned { Tokens self.now.bytes.now self.now.tokens.now }
+        requires inside { self.now.from ≤ length self.now.tokens.now }
+        requires room { budget ≤ 200 }
+        ensures { Answers view self.now.bytes.now self.now.tokens.now (expr budget header (drop self.now.from (words self.now.bytes.now self.now.tokens.now))) (left_of (expr (budget + 4) header (drop self.now.from (words self.now.bytes.now self.now.tokens.now)))) result }
+    {
+        let mut words = self.start();
+        match expr_of_budget(alloc, &mut words, budget, header) {
+            Ok(found) => Ok((found.tree.into_inner(), self.end(words.left()))),
+            Err(ParseError::NoMemory) => Err(ParseFault::NoMemory),
+            Err(ParseError::Fault) => match self.further_expr(
+                alloc,
+                header,
+                budget + FURTHER_LEVELS,
+            ) {
+                Ok(further) => Err(self.fault(words.left(), further)),
+                Err(_) => Err(ParseFault::NoMemory),
+            },
+        }
+    }
+
+    fn further_type_expr(&self, alloc: Global, budget: u32) -> Result<usize, NoMemory>
+        requires scanned { Tokens self.now.bytes.now self.now.tokens.now }
+        requires inside { self.now.from ≤ length self.now.tokens.now }
+        ensures { IfOk result (λ n. n ≡ left_of (type budget (drop self.now.from (words self.now.bytes.now self.now.tokens.now)))) }
+    {
+        let mut words = self.start();
+        match type_of_budget(alloc, &mut words, budget) {
+            Ok(_) => Ok(words.left()),
+            Err(ParseError::Fault) => Ok(words.left()),
+            Err(ParseError::NoMemory) => Err(AllocError),
+        }
+    }
+
+    fn type_expr(&self, alloc: Global, budget: u32) -> Result<(TypeExpr, usize), ParseFault>
+        requires scanned { Tokens self.now.bytes.now self.now.tokens.now }
+        requires inside { self.now.from ≤ length self.now.tokens.now }
+        requires room { budget ≤ 200 }
+        ensures { Answers type_view self.now.bytes.now self.now.tokens.now (type budget (drop self.now.from (words self.now.bytes.now self.now.tokens.now))) (left_of (type (budget + 4) (drop self.now.from (words self.now.bytes.now self.now.tokens.now)))) result }
+    {
+        let mut words = self.start();
+        match type_of_budget(alloc, &mut words, budget) {
+            Ok(found) => Ok((found.tree.into_inner(), self.end(words.left()))),
+            Err(ParseError::NoMemory) => Err(ParseFault::NoMemory),
+            Err(ParseError::Fault) => match self.further_type_expr(alloc, budget + FURTHER_LEVELS) {
+                Ok(further) => Err(self.fault(words.left(), further)),
+                Err(_) => Err(ParseFault::NoMemory),
+            },
+        }
+    }
+
+    fn further_sig_expr(&self, alloc: Global, budget: u32) -> Result<usize, NoMemory>
+        requires scanned { Tokens self.now.bytes.now self.now.tokens.now }
+        requires inside { self.now.from ≤ length self.now.tokens.now }
+        ensures { IfOk result (λ n. n ≡ left_of (sig_of budget (drop self.now.from (words self.now.bytes.now self.now.tokens.now)))) }
+    {
+        let mut words = self.start();
+        match sig(alloc, &mut words, budget) {
+            Ok(_) => Ok(words.left()),
+            Err(ParseError::Fault) => Ok(words.left()),
+            Err(ParseError::NoMemory) => Err(AllocError),
+        }
+    }
+
+    fn sig_expr(&self, alloc: Global, budget: u32) -> Result<(TypeExpr, usize), ParseFault>
+        requires scanned { Tokens self.now.bytes.now self.now.tokens.now }
+        requires inside { self.now.from ≤ length self.now.tokens.now }
+        requires room { budget ≤ 200 }
+        ensures { Answers type_view self.now.bytes.now self.now.tokens.now (sig_of budget (drop self.now.from (words self.now.bytes.now self.now.tokens.now))) (left_of (sig_of (budget + 4) (drop self.now.from (words self.now.bytes.now self.now.tokens.now)))) result }
+    {
+        let mut words = self.start();
+        match sig(alloc, &mut words, budget) {
+            Ok(found) => Ok((found.tree.into_inner(), self.end(words.left()))),
+            Err(ParseError::NoMemory) => Err(ParseFault::NoMemory),
+            Err(ParseError::Fault) => match self.further_sig_expr(alloc, budget + FURTHER_LEVELS) {
+                Ok(further) => Err(self.fault(words.left(), further)),
+                Err(_) => Err(ParseFault::NoMemory),
+            },
+        }
+    }
+}
+
+/// The expression that begins at a token, with the number of the token behind it: the longest list of words from there
+/// with which an expression begins, where it is itself one. In a header braces don't go on with a type's name. The depth
+/// is that of what the expression is a part of.
+///
+/// # Errors
+///
+/// Where that list is none, the fault stands at the word behind it: `TooDeep` where a longer list begins an expression
+/// that is at most four levels deeper, else `Outside` where the word begins a form without trees, else `Unexpected`.
+/// `BadImportPath` and the forms of files are never answered.
+#[tactic(auto, using(crate::proofs::Answered::expr_parsed))]
+pub fn parse_expr(
+    alloc: Global,
+    bytes: &[u8],
+    tokens: &[Token],
+    from: usize,
+    header: bool,
+    depth: u32,
+) -> Result<(ExprTree, usize), ParseFault>
+    requires scanned { Tokens bytes.now tokens.now }
+    requires inside { from ≤ length tokens.now }
+    requires room { depth < 200 }
+    ensures { Parsed view (HasExpr (place header)) (200 - depth) bytes.now tokens.now from result }
+{
+    Reading {
+        bytes,
+        tokens,
+        from,
+    }
+    .expr(alloc, header, DEEPEST - depth)
+}
+
+/// The type that begins at a token, likewise.
+///
+/// # Errors
+///
+/// Likewise, of types.
+#[tactic(auto, using(crate::proofs::Answered::type_parsed))]
+pub fn parse_type(
+    alloc: Global,
+    bytes: &[u8],
+    tokens: &[Token],
+    from: usize,
+    depth: u32,
+) -> Result<(TypeExpr, usize), ParseFault>
+    requires scanned { Tokens bytes.now tokens.now }
+    requires inside { from ≤ length tokens.now }
+    requires room { depth < 200 }
+    ensures { Parsed type_view HasType (200 - depth) bytes.now tokens.now from result }
+{
+    Reading {
+        bytes,
+        tokens,
+        from,
+    }
+    .type_expr(alloc, DEEPEST - depth)
+}
+
+/// The signature that begins at a token, likewise, as the func type of it.
+///
+/// # Errors
+///
+/// Likewise, of signatures.
+#[tactic(auto, using(crate::proofs::Answered::sig_parsed))]
+pub fn parse_sig(
+    alloc: Global,
+    bytes: &[u8],
+    tokens: &[Token],
+    from: usize,
+    depth: u32,
+) -> Result<(TypeExpr, usize), ParseFault>
+    requires scanned { Tokens bytes.now tokens.now }
+    requires inside { from ≤ length tokens.now }
+    requires room { depth < 200 }
+    ensures { Parsed type_view HasSig (200 - depth) bytes.now tokens.now from result }
+{
+    Reading {
+        bytes,
+        tokens,
+        from,
+    }
+    .sig_expr(alloc, DEEPEST - depth)
+}
