@@ -189,18 +189,18 @@ then_taken : {A B C : Type 0} (x : Option C) (on : C → Reader A) (other : Read
 then_taken None on other f ws = refl
 then_taken (Some c) on other f ws = refl
 
-then_take : {A B C : Type 0} (test : Word → Option C) (on : C → Reader A) (other : Reader A) (f : A → Reader B) (ws : List Word) → and_then (take_by test on other ws) f ≡ take_by test (λ c. on c >>= f) (other >>= f) ws
+pub then_take : {A B C : Type 0} (test : Word → Option C) (on : C → Reader A) (other : Reader A) (f : A → Reader B) (ws : List Word) → and_then (take_by test on other ws) f ≡ take_by test (λ c. on c >>= f) (other >>= f) ws
 unfolding take_by
 then_take test on other f ws = then_taken (first test ws) on other f ws
 
-take_each : {A B : Type 0} (test : Word → Option B) (on on' : B → Reader A) (other other' : Reader A) (ws : List Word) → ((b : B) (u : List Word) → on b u ≡ on' b u) → other ws ≡ other' ws → take_by test on other ws ≡ take_by test on' other' ws
+pub take_each : {A B : Type 0} (test : Word → Option B) (on on' : B → Reader A) (other other' : Reader A) (ws : List Word) → ((b : B) (u : List Word) → on b u ≡ on' b u) → other ws ≡ other' ws → take_by test on other ws ≡ take_by test on' other' ws
 take_each test on on' other other' ws same others = take_same test on on' other other' ws (λ b u _. same b u) others
 
-then_each : {A B : Type 0} (o : Outcome A) (f g : A → Reader B) → ((a : A) (u : List Word) → f a u ≡ g a u) → and_then o f ≡ and_then o g
+pub then_each : {A B : Type 0} (o : Outcome A) (f g : A → Reader B) → ((a : A) (u : List Word) → f a u ≡ g a u) → and_then o f ≡ and_then o g
 then_each (Ok p) f g e = e p.0 p.1
 then_each (Err u) f g e = refl
 
-then_then : {A B C : Type 0} (o : Outcome A) (f : A → Reader B) (g : B → Reader C) → and_then (and_then o f) g ≡ and_then o (λ a. f a >>= g)
+pub then_then : {A B C : Type 0} (o : Outcome A) (f : A → Reader B) (g : B → Reader C) → and_then (and_then o f) g ≡ and_then o (λ a. f a >>= g)
 then_then (Ok p) f g = refl
 then_then (Err u) f g = refl
 

@@ -30,7 +30,7 @@ use Rattle.ui_syntax.specs.SoundExprsSuffixes.{primary_sound}
 abbrev pub Each : {A : Type 0} → (A → Type 0) → Outcome A → Type 0
 Each P o = Holds (λ a r. P a) (λ r. Unit {0}) o
 
-any_value : {A : Type 0} (o : Outcome A) → Each (λ a. Unit {0}) o
+pub any_value : {A : Type 0} (o : Outcome A) → Each (λ a. Unit {0}) o
 any_value (Ok p) = good tt
 any_value (Err r) = bad tt
 

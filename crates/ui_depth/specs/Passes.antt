@@ -38,7 +38,7 @@ live_front Has ws front r n e le l =
 
 module _ {T X : Type 0} (Has : ℕ → List Word → T → Type 0) (p : ℕ → Reader X) (tree : X → T) (decides : (limit : ℕ) → 1 ≤ limit → Decides (Has limit) (p limit) tree) where
   -- what is read, or is before a fault, is live
-  live_left : (limit : ℕ) (ws : List Word) (n : ℕ) (o : Outcome X) → 1 ≤ limit → p limit ws ≡ o → n + length (left o) ≤ length ws → IsLive (Has limit) (take n ws)
+  pub live_left : (limit : ℕ) (ws : List Word) (n : ℕ) (o : Outcome X) → 1 ≤ limit → p limit ws ≡ o → n + length (left o) ≤ length ws → IsLive (Has limit) (take n ws)
   live_left limit ws n (Ok x) le e short =
       let f = (decides limit le).found_has ws x.0 x.1 e in
       live_front (Has limit) ws f.front x.1 n f.parts (omega (arith, short, ap length f.parts, length-append f.front x.1)) ([], tree x.0, subst (λ (v : List Word). Has limit v (tree x.0)) (sym (append-nil f.front)) f.has)
@@ -50,7 +50,7 @@ module _ {T X : Type 0} (Has : ℕ → List Word → T → Type 0) (p : ℕ → 
   no_more limit ws n k true e longest le live = leb-true _ _ e
   no_more limit ws n k false e longest le live = absurd (longest.no_longer n (leb-false _ _ e) le live)
 
-  shorter : (limit : ℕ) (ws : List Word) (o : Outcome X) → 1 ≤ limit → p limit ws ≡ o → length (left o) ≤ length ws
+  pub shorter : (limit : ℕ) (ws : List Word) (o : Outcome X) → 1 ≤ limit → p limit ws ≡ o → length (left o) ≤ length ws
   shorter limit ws o le e = subst (λ (x : Outcome X). length (left x) ≤ length ws) e (not_longer ws (p limit ws) ((decides limit le).steady.ends ws))
 
   -- what is live is read, or is before the fault

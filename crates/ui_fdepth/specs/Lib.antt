@@ -1,0 +1,11 @@
+pub mod Settled
+pub mod Enough
+pub mod Syntax
+pub mod Values
+pub mod Heads
+pub mod Bodies
+pub mod Statements
+pub mod Declarations
+pub mod Laws
+pub mod Passes
+pub mod Missing

@@ -1,0 +1,17 @@
+// Laws, each a function whose contract is the statement.
+ghost use Rattle.ui_fdepth.specs.Laws.{Missed, ShowsDepth, TellsFiles, TellsFronts};
+
+/// Where a file's reader faults, a reading of another limit that goes farther shows a fault of depth. A limit of at least eight
+/// times the number of words and sixteen shows each: the fault is one of depth exactly where that reading goes farther. The
+/// words up to the fault's own are enough for it.
+pub fn file_faults_of_depth()
+    ensures shows { ShowsDepth }
+    ensures files { TellsFiles }
+    ensures fronts { TellsFronts }
+{}
+
+/// Files have faults of depth that four levels more don't show, and such that sixteen don't.
+pub fn no_fixed_number()
+    ensures four { Missed 4 }
+    ensures sixteen { Missed 16 }
+{}
