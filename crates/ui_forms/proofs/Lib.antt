@@ -1,0 +1,17 @@
+pub mod WordLemmas
+pub mod NumberLemmas
+pub mod PathLemmas
+pub mod StepLemmas
+pub mod SumLemmas
+pub mod ConstantLemmas
+pub mod SetLemmas
+pub mod NameLemmas
+pub mod Naming
+pub mod PartLaws
+pub mod FormLaws
+pub mod FormLemmas
+pub mod PlaceLemmas
+pub mod ValueLemmas
+pub mod LocalLemmas
+pub mod VerdictLemmas
+pub mod VerdictLaws

@@ -1,0 +1,12 @@
+pub mod Words
+pub mod Numbers
+pub mod Spots
+pub mod Steps
+pub mod Sums
+pub mod Form
+pub mod Size
+pub mod Kept
+pub mod Verdict
+pub mod Choosing
+pub mod Scope
+pub mod Laws
