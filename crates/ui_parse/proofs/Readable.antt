@@ -1,8 +1,8 @@
 -- The text of each name of a file lies within its bytes.
-use Rattle.std.proofs.Common.{◌≡◌, ◌≤◌, ℕ, zero, suc, Bool, true, false, List, [], ◌∷◌, ◌++◌, length, drop, Option, Some, None, refl, sym, ap, subst, ◌∙◌, arith, All}
+use Rattle.std.proofs.Common.{◌≡◌, ◌≤◌, ℕ, zero, suc, Bool, true, false, List, [], ◌∷◌, ◌++◌, length, take, drop, Option, Some, None, refl, sym, ap, subst, ◌∙◌, arith, All}
 use Rattle.std.specs.List.{AllByRecursion}
 use Rattle.std.proofs.lemmas.Bool.{true≢false}
-use Rattle.std.proofs.lemmas.List.{drop-map}
+use Rattle.std.proofs.lemmas.List.{drop-map, take-map}
 use Rattle.std.proofs.lemmas.List.Elements.{recursion_from_All}
 use Rattle.ui_scan.specs.declared.kind.Token.{Token}
 use Rattle.ui_scan.specs.declared.kind.TokenKind.TheVariants as kind
@@ -52,3 +52,13 @@ pub drop_readable : (bytes : List ℕ) (n : ℕ) (ts : List Token) → AllByRecu
 drop_readable bytes zero ts each = each
 drop_readable bytes (suc n) [] each = tt
 drop_readable bytes (suc n) (t ∷ ts) each = drop_readable bytes n ts each.1
+
+-- ---- the first words
+
+pub take_words : (bytes : List ℕ) (ts : List Token) (n : ℕ) → words bytes (take n ts) ≡ take n (words bytes ts)
+take_words bytes ts n = sym (take-map (word_of bytes) n ts)
+
+pub take_readable : (bytes : List ℕ) (n : ℕ) (ts : List Token) → AllByRecursion (IsReadable bytes) ts → AllByRecursion (IsReadable bytes) (take n ts)
+take_readable bytes zero ts each = tt
+take_readable bytes (suc n) [] each = tt
+take_readable bytes (suc n) (t ∷ ts) each = (each.0, take_readable bytes n ts each.1)

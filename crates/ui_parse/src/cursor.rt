@@ -1,6 +1,6 @@
 //! A cursor over the tokens of a file.
 
-ghost use Rattle.std.specs.Prelude.{◌≡◌, ◌≤◌, ℕ, List, Some, length, drop, IfOk, is_some};
+ghost use Rattle.std.specs.Prelude.{◌≡◌, ◌≤◌, ℕ, List, Some, length, take, drop, IfOk, is_some};
 ghost use Rattle.std.specs.List.{AllByRecursion};
 ghost use Rattle.ui_grammar.specs.Word as word;
 ghost use Rattle.ui_scan.specs.Tokens.{Tokens};
@@ -37,8 +37,9 @@ impl<'a> Model for Cursor<'a> {
     ghost invariant = { λ c. AllByRecursion (IsReadable c.bytes.now) c.rest.now };
 }
 
+/// Whether the kinds are the same.
 #[tactic(auto, using(crate::proofs::Tags::same_tags))]
-fn same_kind(a: TokenKind, b: TokenKind) -> bool
+pub fn same_kind(a: TokenKind, b: TokenKind) -> bool
     ensures { result ≡ kinds.is_kind a b }
 {
     a as u8 == b as u8
@@ -177,6 +178,17 @@ fn from_place(tokens: &[Token], from: usize) -> &[Token]
     &tokens[from..]
 }
 
+// The first tokens, so many, or all where there are fewer.
+fn first_tokens(tokens: &[Token], count: usize) -> &[Token]
+    ensures { result.now ≡ take count tokens.now }
+{
+    if count < tokens.len() {
+        &tokens[..count]
+    } else {
+        tokens
+    }
+}
+
 impl<'a> Cursor<'a> {
     /// A cursor at the first of these tokens, which the file of these bytes has.
     pub fn new(bytes: &'a [u8], tokens: &'a [Token]) -> Cursor<'a>
@@ -211,6 +223,17 @@ impl<'a> Cursor<'a> {
         Cursor {
             bytes: self.bytes,
             rest: self.rest,
+        }
+    }
+
+    /// A second cursor, over the first words alone that are left: so many, or all where there are fewer.
+    #[tactic(auto, using(crate::proofs::Readable::take_words))]
+    pub fn front(&self, count: usize) -> Cursor<'a>
+        ensures { result ≡ take count self.now }
+    {
+        Cursor {
+            bytes: self.bytes,
+            rest: first_tokens(self.rest, count),
         }
     }
 

@@ -8,7 +8,7 @@ mod literal;
 mod names;
 mod turn;
 
-pub use cursor::Cursor;
+pub use cursor::{Cursor, same_kind};
 pub use fault::ParseError;
 pub use list::{chain, more_parts, parts};
 pub use literal::Literal;

@@ -16,6 +16,8 @@ fn words_of_a_call(rt: HostRuntime) -> Result<(), Fail> {
     let found = tokens(rt.alloc(), TEXT)?;
     let mut cursor = Cursor::new(TEXT, found.as_slice());
     assert_eq!(rt; cursor.left(), 10);
+    assert_eq!(rt; cursor.front(2).left(), 2);
+    assert_eq!(rt; cursor.front(20).left(), 10);
     assert!(rt; cursor.take(TokenKind::Ident).is_none());
     match cursor.expect_name(rt.alloc()) {
         Ok(name) => assert_eq!(rt; name.text.bytes(), b"f".as_slice()),
