@@ -1,0 +1,5 @@
+pub mod Seen
+pub mod Maybe
+pub mod MaybeLaws
+pub mod Parts
+pub mod StmtViews
