@@ -1,0 +1,15 @@
+pub mod WholeBudget
+pub mod TypeTexts
+pub mod PartTurns
+pub mod ParamSteps
+pub mod BackWords
+pub mod Readings
+pub mod LastToken
+pub mod Decided
+pub mod FunctionSteps
+pub mod FileSteps
+pub mod PathSteps
+pub mod SpecSteps
+pub mod FrontForms
+pub mod StringSpots
+pub mod BadPaths

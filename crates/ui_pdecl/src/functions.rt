@@ -1,0 +1,157 @@
+//! Functions and methods, behind the keyword. Go specification, "Function declarations" and "Method declarations".
+
+ghost use Rattle.std.specs.Prelude.{◌≡◌, ◌-◌, ◌<◌};
+ghost use Rattle.ui_parse.specs.View.{Reads};
+ghost use Rattle.ui_ptype.specs.Seen.{results_tree, results_depth};
+ghost use Rattle.ui_tree.specs.StmtView.{decl_view, receiver_view, maybe_groups};
+ghost use Rattle.std.specs.Option.{option_map};
+ghost use Rattle.ui_tree.specs.View.{type_view, maybe_type};
+ghost use Rattle.ui_stmts.specs.Decls as spec;
+ghost use Rattle.ui_psimple.specs.Seen.{see_deep};
+ghost use Rattle.ui_pdecl.specs.Parts.{func_named};
+ghost use Rattle.ui_pdecl.specs.Seen.{see_signature};
+
+use crate::budgets::body;
+use crate::receivers::receiver;
+use crate::type_params::type_params;
+use std::alloc::Global;
+use ui_base::Spot;
+use ui_parse::{Cursor, ParseError};
+use ui_pexpr::{params, results};
+use ui_psimple::Deep;
+use ui_ptype::{TypeSub, deeper};
+use ui_scan::TokenKind;
+use ui_tree::{Boxed, DeclTree, Group, Items, Placed, Receiver, Sig, TypeExpr};
+
+/// The parameters and results of a function, with their depth.
+pub(crate) type Signature = Deep<Sig<Boxed<TypeExpr>>>;
+
+/// The type parameters of a function, or none, with their depth.
+pub(crate) type MaybeParams = Deep<Option<Items<Group<Boxed<TypeExpr>>>>>;
+
+fn result_of(results: Option<TypeSub>) -> Deep<Option<Boxed<TypeExpr>>>
+    ensures tree { maybe_type (option_map type_view result.of) ≡ results_tree results }
+    ensures depth { result.depth ≡ results_depth results }
+{
+    match results {
+        Some(found) => Deep {
+            of: Some(found.tree),
+            depth: found.depth,
+        },
+        None => Deep { of: None, depth: 0 },
+    }
+}
+
+// Params [ Type | Params ]
+#[tactic(auto, unfolding(ui_stmts::specs::Decls::signature))]
+fn signature(alloc: Global, words: &mut Cursor<'_>, budget: u32) -> Result<Signature, ParseError>
+    requires { 0 < budget }
+    ensures { Reads (see_signature (budget - 1)) (spec.signature (budget - 1) words.old) result words.new }
+{
+    words.expect(TokenKind::LParen)?;
+    let params = params(alloc, words, budget)?;
+    let results = results(alloc, words, budget)?;
+    let results = result_of(results);
+    let depth = deeper(params.depth.max(results.depth))?;
+    Ok(Deep {
+        of: Sig {
+            params: params.items,
+            results: results.of,
+        },
+        depth,
+    })
+}
+
+fn method(
+    alloc: Global,
+    words: &mut Cursor<'_>,
+    budget: u32,
+    spot: Spot,
+    receiver: Receiver,
+) -> Result<Deep<DeclTree>, ParseError>
+    requires { 0 < budget }
+    ensures { Reads (see_deep decl_view) (spec.method_behind (budget - 1) spot (receiver_view receiver) words.old) result words.new }
+{
+    let name = words.expect_name(alloc)?;
+    let sig = signature(alloc, words, budget)?;
+    let body = body(alloc, words, budget)?;
+    Ok(Deep {
+        of: DeclTree::Method {
+            spot,
+            receiver,
+            name,
+            sig: sig.of,
+            body: body.of,
+        },
+        depth: sig.depth.max(body.depth),
+    })
+}
+
+fn func(
+    alloc: Global,
+    words: &mut Cursor<'_>,
+    budget: u32,
+    spot: Spot,
+    name: Placed,
+    params: MaybeParams,
+) -> Result<Deep<DeclTree>, ParseError>
+    requires { 0 < budget }
+    ensures { Reads (see_deep decl_view) (spec.func_behind (budget - 1) spot name (maybe_groups params.of) params.depth words.old) result words.new }
+{
+    let sig = signature(alloc, words, budget)?;
+    let body = body(alloc, words, budget)?;
+    let depth = params.depth.max(sig.depth.max(body.depth));
+    Ok(Deep {
+        of: DeclTree::Func {
+            spot,
+            name,
+            params: params.of,
+            sig: sig.of,
+            body: body.of,
+        },
+        depth,
+    })
+}
+
+// A function behind its name.
+#[tactic(auto, unfolding(ui_parse::specs::Reader::take_by))]
+fn func_named(
+    alloc: Global,
+    words: &mut Cursor<'_>,
+    budget: u32,
+    spot: Spot,
+    name: Placed,
+) -> Result<Deep<DeclTree>, ParseError>
+    requires { 0 < budget }
+    ensures { Reads (see_deep decl_view) (func_named (budget - 1) spot name words.old) result words.new }
+{
+    if words.take(TokenKind::LBracket).is_none() {
+        let none = Deep { of: None, depth: 0 };
+        return func(alloc, words, budget, spot, name, none);
+    }
+    let params = type_params(alloc, words, budget)?;
+    let params = Deep {
+        of: Some(params.groups),
+        depth: params.depth,
+    };
+    func(alloc, words, budget, spot, name, params)
+}
+
+/// A function or a method, behind its keyword at the spot.
+#[tactic(auto, unfolding(ui_stmts::specs::Decls::function, ui_stmts::specs::Decls::receiver, ui_parse::specs::Reader::take_by))]
+pub(crate) fn function(
+    alloc: Global,
+    words: &mut Cursor<'_>,
+    budget: u32,
+    spot: Spot,
+) -> Result<Deep<DeclTree>, ParseError>
+    requires { 0 < budget }
+    ensures { Reads (see_deep decl_view) (spec.function (budget - 1) spot words.old) result words.new }
+{
+    if let Some(open) = words.take(TokenKind::LParen) {
+        let receiver = receiver(alloc, words, open)?;
+        return method(alloc, words, budget, spot, receiver);
+    }
+    let name = words.expect_name(alloc)?;
+    func_named(alloc, words, budget, spot, name)
+}
