@@ -1,0 +1,5 @@
+pub mod StepLemmas
+pub mod PlaceLemmas
+pub mod SourceLemmas
+pub mod PathLemmas
+pub mod Phases
