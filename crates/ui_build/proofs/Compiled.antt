@@ -9,12 +9,12 @@ use Rattle.ui_store.specs.Files.{Files, put}
 use Rattle.ui_frame.specs.Laws.{IsBytes}
 use Rattle.ui_exports.specs.Linked.{Linked}
 use Rattle.ui_consts.specs.Record.{Holds}
-use Rattle.ui_sums.specs.Form.{Form as SourceForm, imported}
-use Rattle.ui_sums.specs.Verdict.{verdict}
+use Rattle.ui_forms.specs.Form.{Form as SourceForm, imported}
+use Rattle.ui_forms.specs.Verdict.{verdict}
 use Rattle.ui_below.specs.Join.{marked}
-use Rattle.ui_build.specs.Plan.{Text, Refusal, Entry, Plan, done, settled, ◌>>=◌}
+use Rattle.ui_build.specs.Plan.{Text, Refusal, Entry, Plan, or_fault, done, settled, ◌>>=◌}
 use Rattle.ui_build.specs.Package.{folder, find, read_form, file_limit, unit_file, linked_file}
-use Rattle.ui_build.specs.Build.{Packages, below_of, reads, or_fault, values, judged, write_files, compile}
+use Rattle.ui_build.specs.Build.{Packages, below_of, reads, values, judged, write_files, compile}
 use Rattle.ui_build.specs.Loading.{with_print, linked_as, mark_of, entry_of, prepared}
 use Rattle.ui_build.specs.Stops.{State, IsFileOf, Puts, Ends, DoesStop, Does, DoesTold}
 use Rattle.ui_build.specs.Built.{IsReady, AreBuilt, Stands}
@@ -78,7 +78,7 @@ judged_below laws files told packages path entry ready is =
     let a = bind_ok (read_form files path) (λ form. reads (imported form) >>= λ _. settled (or_fault (verdict (values packages) form)) >>= λ export. done (record { export = export; below = below_of packages form })) entry is in
     let b = bind_ok (reads (imported a.0)) (λ _. settled (or_fault (verdict (values packages) a.0)) >>= λ export. done (record { export = export; below = below_of packages a.0 })) entry a.2 in
     let c = bind_ok (settled (or_fault (verdict (values packages) a.0))) (λ export. done (record { export = export; below = below_of packages a.0 })) entry b.2 in
-    let there : AreThere packages (imported a.0) = (let P : List Text → Type 0 = AreThere packages in subst P (found_imports path (find files (folder path)) a.0 a.1) ready.imports) in
+    let there : AreThere packages (imported a.0) = (let P : List Text → Type 0 = AreThere packages in subst P (found_imports laws path (find files (folder path)) a.0 a.1) ready.imports) in
     let Q : Entry → Type 0 = λ x. AllByRecursion (λ b. contains_key packages b.0 ≡ true) x.below in
     subst Q (ok_is (record { export = c.0; below = below_of packages a.0 }) entry c.2) (below_form laws told packages a.0 ready.built there)
 

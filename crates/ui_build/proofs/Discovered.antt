@@ -14,7 +14,8 @@ use Rattle.ui_order.specs.Order as orders
 use Rattle.ui_order.specs.Order.{Arrangement, cycle, paths, arranged, IsOnCycle}
 use Rattle.ui_order.specs.Laws.{BeginsFound, KeepsFound, ClosesAtEnd, TakesImportsFirst, TakesAll, ArrangesAcyclic}
 use Rattle.ui_build.specs.Plan.{Text, Refusal, TooMany, settled}
-use Rattle.ui_build.specs.Package.{Source, folder, imports_in}
+use Rattle.ui_sources.specs.Sources.{Source}
+use Rattle.ui_build.specs.Package.{folder, imports_in}
 use Rattle.ui_build.specs.Package as packages
 use Rattle.ui_build.specs.Build.{package_limit, within_limit, discover, discover_next, discover_one, order_or, ordered, build_order}
 use Rattle.ui_build.specs.Built.{imports_by, imports_found, IsInOrder}

@@ -12,26 +12,26 @@ use Rattle.ui_store.specs.declared.store.Given.TheVariants as given
 use Rattle.ui_frame.specs.Container.{fingerprint}
 use Rattle.ui_frame.specs.Opening.{first_failing, parts_in}
 use Rattle.ui_frame.specs.declared.frame.FrameFault.{FrameFault}
-use Rattle.ui_base.specs.Paths.{is_path}
 use Rattle.ui_types.specs.declared.check_fault.Fault.{Fault}
 use Rattle.ui_exports.specs.Export.{Export}
 use Rattle.ui_exports.specs.Linked.{Linked, Below}
-use Rattle.ui_sums.specs.Form.{Form as SourceForm, form_of, imported}
-use Rattle.ui_sums.specs.Verdict.{environment_of}
-use Rattle.ui_sums.specs.Verdict as sums
+use Rattle.ui_base.specs.declared.value.Pos.{Pos}
+use Rattle.ui_sources.specs.Sources.{Source, Trees, source_of, trees_of}
+use Rattle.ui_forms.specs.Form.{Form as SourceForm, imported}
+use Rattle.ui_forms.specs.Verdict.{environment_of}
+use Rattle.ui_forms.specs.Verdict as forms
 use Rattle.ui_consts.specs.Reading.{record_in}
 use Rattle.ui_below.specs.Claims.{claims}
 use Rattle.ui_below.specs.Join.{Apart, joined}
 use Rattle.ui_below.specs.Join as apart
-use Rattle.ui_build.specs.Plan.{Text, Refusal, NoFile, Form, Faulty, TooLong, BadFrame, BadElement, TooMany, Cycle, Stale}
-use Rattle.ui_build.specs.Package as plans
-use Rattle.ui_build.specs.Package.{folder, file_in, linked_file, is_source, form_or}
-use Rattle.ui_build.specs.Build.{package_limit, or_fault}
+use Rattle.ui_build.specs.Plan.{Text, Refusal, NoFile, Faulty, Form, TooLong, BadFrame, BadElement, TooMany, Cycle, Stale, or_fault}
+use Rattle.ui_build.specs.Package.{folder, file_in, linked_file, is_source, form_by, form_or, or_form}
+use Rattle.ui_build.specs.Build.{package_limit}
 use Rattle.ui_build.specs.Loading.{Loaded, Imports, with_loaded, recorded, opened, or_element, or_apart, with_export, judged_with, judgement}
-use Rattle.ui_build.specs.Sources.{source, sources_of}
+use Rattle.ui_build.specs.Sources.{sources_of}
 use Rattle.ui_build.specs.Stops.{SettlesStop, refusal_of}
 use Rattle.ui_build.specs.Heard.{Hears, IsNoRefusal, StoppedBy, RefusedBy, HeardLast, LacksFile, BadSource, BadLinked, BadPackage, RefusesLinked, FindsSources, ReadsSources, ReadsForm, HasRead, HasListed, HearsPackage, LoadsAll, LoadsImports, Loads, Compiles, CompilesAll, Builds, heard_source, names_of, given_of, pairs_of}
-use Rattle.ui_build.specs.declared.sources.Source.{Source}
+use Rattle.ui_sources.specs.declared.source.Source.{Source as InMemory}
 use Rattle.ui_build.specs.declared.stop.Refusal.TheVariants as told
 use Rattle.ui_build.specs.declared.stop.Stop.{Stop}
 use Rattle.ui_build.specs.declared.stop.Stop.TheVariants as stop
@@ -72,10 +72,14 @@ package_later before heard r b = record {
   refused = b.refused;
 }
 
+faulty_later : (before heard : List Hearing) (r : Refusal) → BadSource r heard ⊎ BadPackage r heard → BadSource r (before ++ heard) ⊎ BadPackage r (before ++ heard)
+faulty_later before heard r (inl by) = inl (source_later before heard r by)
+faulty_later before heard r (inr by) = inr (package_later before heard r by)
+
 refused_later : (before heard : List Hearing) (r : Refusal) → RefusedBy r heard → RefusedBy r (before ++ heard)
 refused_later before heard (NoFile name) by = lacks_later before heard name by
-refused_later before heard (Form name) by = source_later before heard (Form name) by
-refused_later before heard (Faulty fault) by = package_later before heard (Faulty fault) by
+refused_later before heard (Faulty fault) by = faulty_later before heard (Faulty fault) by
+refused_later before heard (Form pos) by = source_later before heard (Form pos) by
 refused_later before heard (TooLong name) by = linked_later before heard (TooLong name) by
 refused_later before heard (BadFrame name fault) by = linked_later before heard (BadFrame name fault) by
 refused_later before heard (BadElement name) by = linked_later before heard (BadElement name) by
@@ -157,35 +161,35 @@ source_more : (names : Names) (i : ℕ) (d : String Global) → i < length names
 source_more names i d h e = one_more names i d h ∙ ap (λ b. sources_to names i ++ cond b (string_bytes (get_or names i d) ∷ []) []) e
 
 -- what was heard of the sources read so far
-pub record ReadSoFar (folder : Text) (names : Names) (i : ℕ) (sources : List plans.Source) (old now : Hearings) : Type 0 where
+pub record ReadSoFar (folder : Text) (names : Names) (i : ℕ) (sources : List Source) (old now : Hearings) : Type 0 where
   pub told : now ≡ more old (map heard_source sources)
   pub parts : names_of sources ≡ map (file_in folder) (sources_to names i)
 
 pub so_far_first : (folder : Text) (names : Names) (old : Hearings) → ReadSoFar folder names 0 [] old old
 so_far_first folder names old = record { told = sym (more_none old); parts = refl }
 
-pub so_far_past : (folder : Text) (names : Names) (i : ℕ) (d : String Global) (sources : List plans.Source) (old now : Hearings) → i < length names → is_source (string_bytes (get_or names i d)) ≡ false → ReadSoFar folder names i sources old now → ReadSoFar folder names (i + 1) sources old now
+pub so_far_past : (folder : Text) (names : Names) (i : ℕ) (d : String Global) (sources : List Source) (old now : Hearings) → i < length names → is_source (string_bytes (get_or names i d)) ≡ false → ReadSoFar folder names i sources old now → ReadSoFar folder names (i + 1) sources old now
 so_far_past folder names i d sources old now h e r = record { told = r.told; parts = r.parts ∙ ap (map (file_in folder)) (sym (no_source_more names i d h e)) }
 
-next_told : (sources : List plans.Source) (s : plans.Source) (old now new : Hearings) → now ≡ more old (map heard_source sources) → (heard : List Hearing) → new ≡ more now heard → heard ≡ heard_source s ∷ [] → new ≡ more old (map heard_source (sources ++ s ∷ []))
+next_told : (sources : List Source) (s : Source) (old now new : Hearings) → now ≡ more old (map heard_source sources) → (heard : List Hearing) → new ≡ more now heard → heard ≡ heard_source s ∷ [] → new ≡ more old (map heard_source (sources ++ s ∷ []))
 next_told sources s old now new p heard q e = both_told old now new (map heard_source sources) heard p q ∙ ap (λ h. more old (map heard_source sources ++ h)) e ∙ ap (more old) (sym (map-append heard_source sources (s ∷ [])))
 
-pub so_far_next : {X : Type 0} (view : X → plans.Source) (folder : Text) (names : Names) (i : ℕ) (d : String Global) (sources : List plans.Source) (x : X) (old now new : Hearings) → i < length names → is_source (string_bytes (get_or names i d)) ≡ true → (view x).0 ≡ file_in folder (string_bytes (get_or names i d))
+pub so_far_next : {X : Type 0} (view : X → Source) (folder : Text) (names : Names) (i : ℕ) (d : String Global) (sources : List Source) (x : X) (old now new : Hearings) → i < length names → is_source (string_bytes (get_or names i d)) ≡ true → (view x).0 ≡ file_in folder (string_bytes (get_or names i d))
     → ReadSoFar folder names i sources old now → Hears (λ y. HasRead (view y)) now new (Ok x) → ReadSoFar folder names (i + 1) (sources ++ view x ∷ []) old new
 so_far_next view folder names i d sources x old now new h e name r read = record {
   told = next_told sources (view x) old now new r.told read.heard read.told read.ends;
-  parts = map-append (λ (s : plans.Source). s.0) sources (view x ∷ []) ∙ ap (λ ns. ns ++ (view x).0 ∷ []) r.parts ∙ ap (λ n. map (file_in folder) (sources_to names i) ++ n ∷ []) name
+  parts = map-append (λ (s : Source). s.0) sources (view x ∷ []) ∙ ap (λ ns. ns ++ (view x).0 ∷ []) r.parts ∙ ap (λ n. map (file_in folder) (sources_to names i) ++ n ∷ []) name
       ∙ sym (map-append (file_in folder) (sources_to names i) (string_bytes (get_or names i d) ∷ [])) ∙ ap (map (file_in folder)) (sym (source_more names i d h e));
 }
 
-pub so_far_stop : {X Y : Type 0} (read : X → List Hearing → Type 0) (gives : Y → List Hearing → Type 0) (folder : Text) (names : Names) (i : ℕ) (sources : List plans.Source) (s : Stop) (old now new : Hearings) → ReadSoFar folder names i sources old now → Hears read now new (Err s) → Hears gives old new (Err s)
+pub so_far_stop : {X Y : Type 0} (read : X → List Hearing → Type 0) (gives : Y → List Hearing → Type 0) (folder : Text) (names : Names) (i : ℕ) (sources : List Source) (s : Stop) (old now new : Hearings) → ReadSoFar folder names i sources old now → Hears read now new (Err s) → Hears gives old new (Err s)
 so_far_stop read gives folder names i sources s old now new r h = record { heard = map heard_source sources ++ h.heard; told = both_told old now new (map heard_source sources) h.heard r.told h.told; ends = stopped_later (map heard_source sources) h.heard s h.ends }
 
-pub so_far_none : {Y : Type 0} (gives : Y → List Hearing → Type 0) (folder : Text) (names : Names) (i : ℕ) (sources : List plans.Source) (old now : Hearings) → ReadSoFar folder names i sources old now → Hears gives old now (Err stop.NoMemory)
+pub so_far_none : {Y : Type 0} (gives : Y → List Hearing → Type 0) (folder : Text) (names : Names) (i : ℕ) (sources : List Source) (old now : Hearings) → ReadSoFar folder names i sources old now → Hears gives old now (Err stop.NoMemory)
 so_far_none gives folder names i sources old now r = record { heard = map heard_source sources; told = r.told; ends = tt }
 
-pub so_far_last : (folder : Text) (names : Names) (i : ℕ) (v : Vec Source Global) (old now : Hearings) → take i names ≡ names → ReadSoFar folder names i (sources_of v) old now
-    → Hears (λ (w : Vec Source Global). ReadsSources folder (filter is_source (map string_bytes names)) (sources_of w)) old now (Ok v)
+pub so_far_last : (folder : Text) (names : Names) (i : ℕ) (v : Vec InMemory Global) (old now : Hearings) → take i names ≡ names → ReadSoFar folder names i (sources_of v) old now
+    → Hears (λ (w : Vec InMemory Global). ReadsSources folder (filter is_source (map string_bytes names)) (sources_of w)) old now (Ok v)
 so_far_last folder names i v old now all r = record {
   heard = map heard_source (sources_of v);
   told = r.told;
@@ -193,29 +197,29 @@ so_far_last folder names i v old now all r = record {
 }
 
 -- a folder was listed, and its sources read
-pub finds : (folder : Text) (names : List Text) (sources : List plans.Source) (a b : List Hearing) → HasListed folder names a → ReadsSources folder (filter is_source names) sources b → FindsSources folder sources (a ++ b)
+pub finds : (folder : Text) (names : List Text) (sources : List Source) (a b : List Hearing) → HasListed folder names a → ReadsSources folder (filter is_source names) sources b → FindsSources folder sources (a ++ b)
 finds folder names sources a b listed read = record { names = names; whole = ap (λ x. x ++ b) listed ∙ ap (λ x. (ask.List, folder, given.Names names) ∷ x) read.whole; parts = read.parts }
 
 no_items : {X Y : Type 0} (f : X → Y) (xs : List X) → map f xs ≡ [] → xs ≡ []
 no_items f [] e = refl
 no_items f (x ∷ xs) e = absurd cc
 
-lists_last : (folder : Text) (sources : List plans.Source) (heard : List Hearing) → sources ≡ [] → FindsSources folder sources heard → LacksFile folder heard
+lists_last : (folder : Text) (sources : List Source) (heard : List Hearing) → sources ≡ [] → FindsSources folder sources heard → LacksFile folder heard
 lists_last folder sources heard none f =
     let is_last : heard ≡ [] ++ (ask.List, folder, given.Names f.names) ∷ [] = f.whole ∙ ap (λ ss. (ask.List, folder, given.Names f.names) ∷ map heard_source ss) none in
     inr (f.names, ([], is_last), no_items (file_in folder) (filter is_source f.names) (sym f.parts ∙ ap names_of none))
 
-no_sources : (sources : List Source) → length sources ≡ 0 → map source sources ≡ []
+no_sources : (sources : List InMemory) → length sources ≡ 0 → map source_of sources ≡ []
 no_sources [] e = refl
 no_sources (s ∷ ss) e = absurd (omega (arith, e))
 
 -- a folder without sources
-pub found_none : (folder : Text) (names : List Text) (sources : List Source) (a b : List Hearing) → length sources ≡ 0 → HasListed folder names a → ReadsSources folder (filter is_source names) (map source sources) b → LacksFile folder (a ++ b)
-found_none folder names sources a b none listed read = lists_last folder (map source sources) (a ++ b) (no_sources sources none) (finds folder names (map source sources) a b listed read)
+pub found_none : (folder : Text) (names : List Text) (sources : List InMemory) (a b : List Hearing) → length sources ≡ 0 → HasListed folder names a → ReadsSources folder (filter is_source names) (map source_of sources) b → LacksFile folder (a ++ b)
+found_none folder names sources a b none listed read = lists_last folder (map source_of sources) (a ++ b) (no_sources sources none) (finds folder names (map source_of sources) a b listed read)
 
 -- a folder was listed that has no source
-pub heard_empty : {Y : Type 0} (gives : Y → List Hearing → Type 0) (folder : Text) (name : String Global) (names : Vec (String Global) Global) (v : Vec Source Global) (old mid new : Hearings) → string_bytes name ≡ folder → length v.items ≡ 0
-    → Hears (λ (ns : Vec (String Global) Global). HasListed folder (texts ns)) old mid (Ok names) → Hears (λ (w : Vec Source Global). ReadsSources folder (filter is_source (texts names)) (sources_of w)) mid new (Ok v) → Hears gives old new (Err (stop.Refused (told.NoFile name)))
+pub heard_empty : {Y : Type 0} (gives : Y → List Hearing → Type 0) (folder : Text) (name : String Global) (names : Vec (String Global) Global) (v : Vec InMemory Global) (old mid new : Hearings) → string_bytes name ≡ folder → length v.items ≡ 0
+    → Hears (λ (ns : Vec (String Global) Global). HasListed folder (texts ns)) old mid (Ok names) → Hears (λ (w : Vec InMemory Global). ReadsSources folder (filter is_source (texts names)) (sources_of w)) mid new (Ok v) → Hears gives old new (Err (stop.Refused (told.NoFile name)))
 heard_empty gives folder name names v old mid new is none l r =
     let P : Text → Type 0 = λ n. LacksFile n (l.heard ++ r.heard) in
     record { heard = l.heard ++ r.heard; told = both_told old mid new l.heard r.heard l.told r.told; ends = subst P (sym is) (found_none folder (texts names) v.items l.heard r.heard none l.ends r.ends) }
@@ -228,40 +232,45 @@ failing r = Err r
 err_is : {X : Type 0} (x y : Refusal) → failing {X = X} x ≡ failing y → y ≡ x
 err_is x y e = cc
 
--- A package has no form for want of sources, or for a file.
-abbrev IsNoForm : Text → List plans.Source → Refusal → Type 0
-IsNoForm path sources r = ((sources ≡ []) × (r ≡ NoFile (folder path))) ⊎ ((name : Text) × (r ≡ Form name))
+-- A package has no form for want of sources, for their fault, or for what isn't taken.
+abbrev IsNoForm : Text → List Source → Refusal → Type 0
+IsNoForm path sources r = ((sources ≡ []) × (r ≡ NoFile (folder path))) ⊎ (((fault : Fault) × (r ≡ Faulty fault)) ⊎ ((pos : Pos) × (r ≡ Form pos)))
 
-no_form : (name : Text) (found : Option SourceForm) (r : Refusal) → plans.or_form name found ≡ Err r → (n : Text) × (r ≡ Form n)
-no_form name (Some form) r e = absurd cc
-no_form name None r e = (name, err_is {X = SourceForm} (Form name) r e)
+abbrev IsNoFormOfTrees : Refusal → Type 0
+IsNoFormOfTrees r = ((fault : Fault) × (r ≡ Faulty fault)) ⊎ ((pos : Pos) × (r ≡ Form pos))
 
-valid_form : (name : Text) (b : Bool) (found : Option SourceForm) (r : Refusal) → cond b (plans.or_form name found) (Err (Form name)) ≡ Err r → (n : Text) × (r ≡ Form n)
-valid_form name true found r e = no_form name found r e
-valid_form name false found r e = (name, err_is {X = SourceForm} (Form name) r e)
+not_formed : (found : Result SourceForm Pos) (r : Refusal) → or_form found ≡ Err r → IsNoFormOfTrees r
+not_formed (Ok form) r e = absurd cc
+not_formed (Err pos) r e = inr (pos, err_is {X = SourceForm} (Form pos) r e)
 
-no_form_by : (path : Text) (sources : List plans.Source) (r : Refusal) → form_or path sources ≡ Err r → IsNoForm path sources r
+no_form : (path : Text) (found : Result Trees Fault) (r : Refusal) → form_by path found ≡ Err r → IsNoFormOfTrees r
+no_form path (Ok trees) r e = not_formed _ r e
+no_form path (Err fault) r e = inl (fault, err_is {X = SourceForm} (Faulty fault) r e)
+
+no_form_by : (path : Text) (sources : List Source) (r : Refusal) → form_or path sources ≡ Err r → IsNoForm path sources r
 unfolding form_or
 no_form_by path [] r e = inl (refl, err_is {X = SourceForm} (NoFile (folder path)) r e)
-no_form_by path ((name, Some bytes) ∷ []) r e = inr (valid_form name (is_path path) (form_of path name bytes) r e)
-no_form_by path ((name, None) ∷ []) r e = inr (name, err_is {X = SourceForm} (Form name) r e)
-no_form_by path ((name, bytes) ∷ other ∷ others) r e = inr (name, err_is {X = SourceForm} (Form name) r e)
+no_form_by path (source ∷ sources) r e = inr (no_form path (trees_of path (source ∷ sources)) r e)
 
-form_refused : (path : Text) (sources : List plans.Source) (found : List Hearing) (r : Refusal) → FindsSources (folder path) sources found → form_or path sources ≡ Err r → RefusedBy r found
+bad_source : (path : Text) (sources : List Source) (found : List Hearing) (r q : Refusal) → FindsSources (folder path) sources found → form_or path sources ≡ Err r → r ≡ q → BadSource q found
+bad_source path sources found r q finds is eq = record { path = path; sources = sources; before = []; found = found; whole = refl; finds = finds; refused = is ∙ ap (failing {X = SourceForm}) eq }
+
+form_refused : (path : Text) (sources : List Source) (found : List Hearing) (r : Refusal) → FindsSources (folder path) sources found → form_or path sources ≡ Err r → RefusedBy r found
 form_refused path sources found r finds is =
     let P : Refusal → Type 0 = λ q. RefusedBy q found in
     elim (no_form_by path sources r is) [
       | inl (none, eq) ↦ subst P (sym eq) (lists_last (folder path) sources found none finds)
-      | inr (name, eq) ↦ subst P (sym eq) (record { path = path; sources = sources; before = []; found = found; whole = refl; finds = finds; refused = is ∙ ap (failing {X = SourceForm}) eq })
+      | inr (inl (fault, eq)) ↦ subst P (sym eq) (inl (bad_source path sources found r (Faulty fault) finds is eq))
+      | inr (inr (pos, eq)) ↦ subst P (sym eq) (bad_source path sources found r (Form pos) finds is eq)
     ]
 
-pub form_stopped : (path : Text) (sources : List plans.Source) (found : List Hearing) (s : Stop) → SettlesStop (form_or path sources) s → FindsSources (folder path) sources found → StoppedBy s found
+pub form_stopped : (path : Text) (sources : List Source) (found : List Hearing) (s : Stop) → SettlesStop (form_or path sources) s → FindsSources (folder path) sources found → StoppedBy s found
 form_stopped path sources found (stop.Refused r) is finds = form_refused path sources found (refusal_of r) finds is
 form_stopped path sources found (stop.ReadFault name) is finds = tt
 form_stopped path sources found (stop.WriteFault name) is finds = tt
 form_stopped path sources found stop.NoMemory is finds = tt
 
-pub reads_form : (path : Text) (sources : List plans.Source) (form : SourceForm) (found : List Hearing) → form_or path sources ≡ Ok form → FindsSources (folder path) sources found → ReadsForm path form found
+pub reads_form : (path : Text) (sources : List Source) (form : SourceForm) (found : List Hearing) → form_or path sources ≡ Ok form → FindsSources (folder path) sources found → ReadsForm path form found
 reads_form path sources form found is finds = record { sources = sources; found = finds; spelled = is }
 
 -- ---- a linked file that was read
@@ -408,8 +417,8 @@ hears_package path form imports a b read l = record { sources = a; linked = b; w
 -- the refusals of a package by its sources and the linked files of its imports
 abbrev IsPackage : Refusal → Type 0
 IsPackage (NoFile name) = ⊥
-IsPackage (Form name) = ⊥
 IsPackage (Faulty fault) = Unit {0}
+IsPackage (Form pos) = ⊥
 IsPackage (TooLong name) = ⊥
 IsPackage (BadFrame name fault) = ⊥
 IsPackage (BadElement name) = ⊥
@@ -438,7 +447,7 @@ is_apart path (Err (apart.Stale at first second)) r e = package_is {X = List Bel
 is_apart path (Err apart.Cycle) r e = package_is {X = List Below} (Cycle path) r e tt
 
 judged_refused : (form : SourceForm) (imports : List Linked) (found : Result (List Below) Refusal) (r : Refusal) → judged_with form imports found ≡ Err r → ((q : Refusal) → found ≡ Err q → IsPackage q) → IsPackage r
-judged_refused form imports (Ok below) r e h = with_no_export below (or_fault (sums.verdict (environment_of imports) form)) r e (λ q is. no_export (sums.verdict (environment_of imports) form) q is)
+judged_refused form imports (Ok below) r e h = with_no_export below (or_fault (forms.verdict (environment_of imports) form)) r e (λ q is. no_export (forms.verdict (environment_of imports) form) q is)
 judged_refused form imports (Err q) r e h = package_is {X = Linked} q r e (h q refl)
 
 judgement_refused : (path : Text) (form : SourceForm) (imports : Imports) (r : Refusal) → judgement path form imports ≡ Err r → IsPackage r
@@ -453,8 +462,8 @@ bad_package path form all heard r hears is = record { path = path; form = form; 
 
 package_refused : (path : Text) (form : SourceForm) (all : List Loaded) (heard : List Hearing) (r : Refusal) → HearsPackage path form all heard → judgement path form (pairs_of all) ≡ Err r → RefusedBy r heard
 package_refused path form all heard (NoFile name) hears is = absurd (no_package path form (pairs_of all) (NoFile name) (λ h. h) is)
-package_refused path form all heard (Form name) hears is = absurd (no_package path form (pairs_of all) (Form name) (λ h. h) is)
-package_refused path form all heard (Faulty fault) hears is = bad_package path form all heard (Faulty fault) hears is
+package_refused path form all heard (Faulty fault) hears is = inr (bad_package path form all heard (Faulty fault) hears is)
+package_refused path form all heard (Form pos) hears is = absurd (no_package path form (pairs_of all) (Form pos) (λ h. h) is)
 package_refused path form all heard (TooLong name) hears is = absurd (no_package path form (pairs_of all) (TooLong name) (λ h. h) is)
 package_refused path form all heard (BadFrame name fault) hears is = absurd (no_package path form (pairs_of all) (BadFrame name fault) (λ h. h) is)
 package_refused path form all heard (BadElement name) hears is = absurd (no_package path form (pairs_of all) (BadElement name) (λ h. h) is)

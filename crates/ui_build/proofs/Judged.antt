@@ -7,14 +7,14 @@ use Rattle.std.proofs.lemmas.Bool.{eqb-true}
 use Rattle.ui_base.specs.Paths.{is_path}
 use Rattle.ui_exports.specs.Export.{Declaration, Export}
 use Rattle.ui_exports.specs.Linked.{Linked, Below}
-use Rattle.ui_sums.specs.Form.{Form as SourceForm}
-use Rattle.ui_sums.specs.Verdict.{environment_of, verdict}
-use Rattle.ui_sums.specs.Size as sums
-use Rattle.ui_consts.specs.Size.{IsSmallEntry, IsSmallExport, HasNames, IsBelow, IsSmall}
+use Rattle.ui_forms.specs.Form.{Form as SourceForm}
+use Rattle.ui_forms.specs.Verdict.{environment_of, verdict}
+use Rattle.ui_forms.specs.Size as forms
+use Rattle.ui_consts.specs.Size.{IsSmallEntry, IsSmallExport, HasName, HasNames, IsBelow, IsSmall}
 use Rattle.ui_below.specs.Claims.{claims}
 use Rattle.ui_below.specs.Join.{joined, JoinedIsListed, JoinedHolds}
-use Rattle.ui_build.specs.Plan.{Text, Refusal}
-use Rattle.ui_build.specs.Build.{or_fault, package_limit}
+use Rattle.ui_build.specs.Plan.{Text, Refusal, or_fault}
+use Rattle.ui_build.specs.Build.{package_limit}
 use Rattle.ui_build.specs.Loading.{Imports, or_apart, with_export, judged_with, judgement}
 use Rattle.ui_build.specs.Views.{is_sound}
 use Rattle.ui_build.specs.Stops.{SettlesStop}
@@ -60,13 +60,20 @@ second_true : (a b : Bool) → (a && b) ≡ true → b ≡ true
 second_true true b e = e
 second_true false b e = absurd cc
 
-small_entries : (es : List (Text × Declaration)) → AllByRecursion sums.IsSmallEntry es → AllByRecursion IsSmallEntry es
+small_entries : (es : List (Text × Declaration)) → AllByRecursion forms.IsSmallEntry es → AllByRecursion IsSmallEntry es
 small_entries [] h = tt
 small_entries (e ∷ es) (s, rest) = (record { name = s.name; file = s.file; line = s.line; line_fits = s.line_fits; column = s.column; column_fits = s.column_fits; value = s.value }, small_entries es rest)
 
 -- what a check bounds is what can be written
-pub small_export : (e : Export) → sums.IsSmallExport e → IsSmallExport e
+pub small_export : (e : Export) → forms.IsSmallExport e → IsSmallExport e
 small_export e s = record { path = s.path; name = s.name; few = s.few; entries = small_entries (entries e.decls) s.entries }
+
+named_entries : (es : List (Text × Declaration)) → AllByRecursion forms.IsSmallEntry es → AllByRecursion HasName es
+named_entries [] h = tt
+named_entries (e ∷ es) (s, rest) = (record { name = s.is_name; file = s.some_file }, named_entries es rest)
+
+pub export_names : (e : Export) → forms.IsSmallExport e → HasNames e
+export_names e s = record { path = s.is_path; name = s.is_name; entries = named_entries (entries e.decls) s.entries }
 
 each_below : (below : List Below) → list_all (λ (b : Below). is_sound b.path b.print) below ≡ true → AllByRecursion IsBelow below
 each_below [] h = tt

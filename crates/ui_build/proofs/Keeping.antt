@@ -14,7 +14,8 @@ use Rattle.ui_store.specs.Files.{Files, listing, reading, within, part_in, if_na
 use Rattle.ui_store.specs.declared.fault.StoreFault.{StoreFault}
 use Rattle.ui_store.specs.declared.store.AskKind.TheVariants as ask
 use Rattle.ui_build.specs.Plan.{Text, Plan, done, ◌>>=◌, asking}
-use Rattle.ui_build.specs.Package.{Source, folder, unit_file, linked_file, file_in, is_source, source_limit, listed_as, read_as, read_source, read_sources, some_source, find}
+use Rattle.ui_sources.specs.Sources.{Source, source_limit}
+use Rattle.ui_build.specs.Package.{folder, unit_file, linked_file, file_in, is_source, listed_as, read_as, read_source, read_sources, some_source, find}
 use Rattle.ui_build.specs.Built.{SameSources}
 use Rattle.ui_build.proofs.Plans.{bind_same}
 

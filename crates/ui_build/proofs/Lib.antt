@@ -8,8 +8,6 @@ pub mod Linking
 pub mod Sufficient
 pub mod Forms
 pub mod Compiled
-pub mod Naming
-pub mod FormNames
 pub mod LoadingAll
 pub mod Judged
 pub mod Ordered

@@ -10,15 +10,18 @@ use Rattle.std.proofs.lemmas.List.{map-append}
 use Rattle.ui_store.specs.Files.{Files}
 use Rattle.ui_exports.specs.Export.{Export}
 use Rattle.ui_exports.specs.Linked.{Linked, Below}
-use Rattle.ui_sums.specs.Form.{Form as SourceForm, imported}
-use Rattle.ui_sums.specs.Verdict.{environment_of, verdict, constant_of, IsLocal}
+use Rattle.ui_forms.specs.Laws.{ImportsAreFound}
+use Rattle.ui_forms.specs.Form.{Form as SourceForm, imported}
+use Rattle.ui_forms.specs.Verdict.{environment_of, verdict, constant_in, IsLocal}
 use Rattle.ui_below.specs.Claims.{claims, claims_of, indirect}
 use Rattle.ui_below.specs.Join.{joined, marked, JoinedAsMarked, MarksThePaths}
-use Rattle.ui_build.specs.Plan.{Text, Refusal, TooMany, Entry, Plan, done, settled, ◌>>=◌}
-use Rattle.ui_build.specs.Package.{Source, folder, find as find_sources, form_or, read_form, imports_of_form}
-use Rattle.ui_build.specs.Build.{Packages, package_limit, values, value_in, brings, below_in, not_direct, below_of, or_fault, reads, judged}
+use Rattle.ui_build.specs.Plan.{Text, Refusal, TooMany, Entry, Plan, or_fault, done, settled, ◌>>=◌}
+use Rattle.ui_sources.specs.Sources.{Source}
+use Rattle.ui_build.specs.Package.{folder, find as find_sources, form_or, read_form}
+use Rattle.ui_build.specs.Build.{Packages, package_limit, values, value_in, brings, below_in, not_direct, below_of, reads, judged}
 use Rattle.ui_build.specs.Loading.{Imports, print_of, with_print, linked_as, mark_of, load_all, or_apart, with_export, judged_with, judgement, prepared}
 use Rattle.ui_build.specs.Built.{AreBuilt, imports_found, IsReady}
+use Rattle.ui_build.proofs.Forms.{all_append, form_imports}
 use Rattle.ui_build.proofs.Plans.{bind_same, bind_assoc}
 use Rattle.ui_build.proofs.Within.{len_within}
 use Rattle.ui_build.proofs.Linking.{Containers, Records, entry_at, entry_there, linked_at, load_all-built}
@@ -41,10 +44,6 @@ claims_at told packages paths = claims (files_of told packages paths) (prints_of
 pub record IsKnown (told : Files) (packages : Packages) (c : Below) : Type 0 where
   pub there : contains_key packages c.path ≡ true
   pub print : c.print ≡ print_of told c.path
-
-all_append : {X : Type 0} (P : X → Type 0) (xs ys : List X) → AllByRecursion P xs → AllByRecursion P ys → AllByRecursion P (xs ++ ys)
-all_append P [] ys h k = k
-all_append P (x ∷ xs) ys h k = (h.0, all_append P xs ys h.1 k)
 
 known_below : (told : Files) (packages : Packages) (below : List (Text × Bool)) → AllByRecursion (λ b. contains_key packages b.0 ≡ true) below → AllByRecursion (IsKnown told packages) (map indirect (map (with_print told) below))
 known_below told packages [] h = tt
@@ -127,7 +126,7 @@ found_file told packages (q ∷ qs) p built h c =
 
 same_values : (told : Files) (packages : Packages) (paths : List Text) (p name : Text) → AreBuilt told packages → AreThere packages paths → Contains paths p → environment_of (files_of told packages paths) p name ≡ values packages p name
 same_values told packages paths p name built h c =
-    ap (option_and_then (λ (l : Linked). constant_of l.export.decls name)) (found_file told packages paths p built h c)
+    ap (option_and_then (λ (l : Linked). constant_in l.export.decls name)) (found_file told packages paths p built h c)
     ∙ ap (value_in name) (sym (entry_there packages p (contained packages paths p h c)))
 
 -- ---- the judgement
@@ -139,6 +138,7 @@ pub record Laws : Type 0 where
   pub joins : JoinedAsMarked
   pub marks : MarksThePaths
   pub local : IsLocal
+  pub found : ImportsAreFound
 
 abbrev list_by : Files → Packages → SourceForm → List Below
 list_by told packages form = map (with_print told) (below_of packages form)
@@ -185,15 +185,15 @@ settled_export told below (Err refusal) = refl
 ok_is : {X : Type 0} (x y : X) → ◌≡◌ {A = Result X Refusal} (Ok x) (Ok y) → x ≡ y
 ok_is x y e = cc
 
-settled_value : (r : Result SourceForm Refusal) (form : SourceForm) → (settled r).value ≡ Ok form → imports_of_form r ≡ imported form
-settled_value (Ok f) form e = ap imported (ok_is f form e)
+settled_value : (r : Result SourceForm Refusal) (form : SourceForm) → (settled r).value ≡ Ok form → r ≡ Ok form
+settled_value (Ok f) form e = ap Ok (ok_is f form e)
 settled_value (Err refusal) form e = absurd cc
 
-pub found_imports : (path : Text) (p : Plan (List Source)) (form : SourceForm) → (p >>= λ sources. settled (form_or path sources)).value ≡ Ok form → imports_found path p.value ≡ imported form
-found_imports path p form e = by p.value e
+pub found_imports : (laws : Laws) (path : Text) (p : Plan (List Source)) (form : SourceForm) → (p >>= λ sources. settled (form_or path sources)).value ≡ Ok form → imports_found path p.value ≡ imported form
+found_imports laws path p form e = by p.value e
   where
     by : (v : Result (List Source) Refusal) → (record { value = v; asks = p.asks; puts = p.puts } >>= λ sources. settled (form_or path sources)).value ≡ Ok form → imports_found path v ≡ imported form
-    by (Ok sources) h = settled_value (form_or path sources) form h
+    by (Ok sources) h = form_imports laws.found path sources form (settled_value (form_or path sources) form h)
     by (Err refusal) h = absurd cc
 
 abbrev judged_form : Packages → SourceForm → Plan Entry
@@ -220,5 +220,5 @@ sufficient laws files told packages path ready =
     ∙ bind_same (read_form files path) (λ form. load_all told ([], []) (imported form) >>= λ imports. settled (judgement path form imports)) (λ form. judged_form packages form >>= λ entry. done (linked_as told entry))
     (λ form is.
     let P : List Text → Type 0 = AreThere packages in
-    by_form laws told packages path form ready.built (subst P (found_imports path (find_sources files (folder path)) form is) ready.imports) ready.apart ready.few)
+    by_form laws told packages path form ready.built (subst P (found_imports laws path (find_sources files (folder path)) form is) ready.imports) ready.apart ready.few)
     ∙ sym (bind_assoc (read_form files path) (judged_form packages) (λ entry. done (linked_as told entry)))

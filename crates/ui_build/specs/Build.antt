@@ -5,14 +5,13 @@ use Rattle.std.specs.Cmp.Lexicographic.{slice_cmp}
 use Rattle.std.specs.FinMap.{FinMap, empty, entries, get, insert}
 use Rattle.ui_store.specs.Files.{Files}
 use Rattle.ui_store.specs.declared.store.AskKind.TheVariants as ask
-use Rattle.ui_types.specs.declared.check_fault.Fault.{Fault}
 use Rattle.ui_exports.specs.Export.{Export}
-use Rattle.ui_sums.specs.Form.{Form as SourceForm, imported}
-use Rattle.ui_sums.specs.Verdict.{Environment, verdict}
+use Rattle.ui_forms.specs.Form.{Form as SourceForm, imported}
+use Rattle.ui_forms.specs.Verdict.{Environment, verdict}
 use Rattle.ui_below.specs.Join.{marked}
 use Rattle.ui_order.specs.Found.{Graph, Found, begun, least_unread, with_imports, found_count}
 use Rattle.ui_order.specs.Order.{Arrangement, cycle, paths, arranged}
-use Rattle.ui_build.specs.Plan.{Text, Refusal, NoFile, Faulty, TooMany, Cycle, Entry, Plan, done, refused, settled, ◌>>=◌, asking, writing}
+use Rattle.ui_build.specs.Plan.{Text, Refusal, NoFile, TooMany, Cycle, Entry, Plan, or_fault, done, refused, settled, ◌>>=◌, asking, writing}
 use Rattle.ui_build.specs.Package.{folder, unit_file, linked_file, find, imports_in, read_form}
 
 -- ---- discovery: the least found path that isn't read yet is found and its imports are added, till none is left
@@ -78,11 +77,6 @@ below_of packages form = entries (marked (flat_map (brings packages) (imported f
 unfoldable pub reads : List Text → Plan (Unit {0})
 reads [] = done (tt {0})
 reads (path ∷ rest) = asking (ask.Read, linked_file path) (Ok (tt {0})) >>= λ _. reads rest
-
--- what a package exports, or its first fault as a refusal
-abbrev pub or_fault : Result Export Fault → Result Export Refusal
-or_fault (Ok export) = Ok export
-or_fault (Err fault) = Err (Faulty fault)
 
 -- What a package stands for: its sources are found, the linked files of its imports are read, and it is checked against
 -- what the packages before stand for.

@@ -5,8 +5,9 @@ use Rattle.std.specs.List.{AllByRecursion}
 use Rattle.std.specs.FinMap.{get, contains_key, len}
 use Rattle.ui_store.specs.Files.{Files}
 use Rattle.ui_order.specs.Steps.{has}
+use Rattle.ui_sources.specs.Sources.{Source}
 use Rattle.ui_build.specs.Plan.{Text, Refusal, Entry}
-use Rattle.ui_build.specs.Package.{Source, folder, linked_file, find, imports_in}
+use Rattle.ui_build.specs.Package.{folder, linked_file, find, imports_in}
 use Rattle.ui_build.specs.Build.{Packages, package_limit}
 use Rattle.ui_build.specs.Stops.{IsFileOf}
 

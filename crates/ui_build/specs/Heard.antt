@@ -8,9 +8,10 @@ use Rattle.ui_store.specs.declared.store.Given.{Given}
 use Rattle.ui_store.specs.declared.store.Given.TheVariants as given
 use Rattle.ui_exports.specs.Export.{Export}
 use Rattle.ui_exports.specs.Linked.{Linked}
-use Rattle.ui_sums.specs.Form.{Form as SourceForm, imported}
-use Rattle.ui_build.specs.Plan.{Text, Refusal, NoFile, Form, Faulty, TooLong, BadFrame, BadElement, TooMany, Cycle, Stale}
-use Rattle.ui_build.specs.Package.{Source, folder, file_in, linked_file, is_source, form_or}
+use Rattle.ui_forms.specs.Form.{Form as SourceForm, imported}
+use Rattle.ui_sources.specs.Sources.{Source}
+use Rattle.ui_build.specs.Plan.{Text, Refusal, NoFile, Faulty, Form, TooLong, BadFrame, BadElement, TooMany, Cycle, Stale}
+use Rattle.ui_build.specs.Package.{folder, file_in, linked_file, is_source, form_or}
 use Rattle.ui_build.specs.Loading.{Loaded, Imports, recorded, judgement}
 use Rattle.ui_build.specs.Stops.{refusal_of}
 use Rattle.ui_build.specs.declared.stop.Stop.{Stop}
@@ -49,7 +50,7 @@ pub record FindsSources (folder : Text) (sources : List Source) (heard : List He
   pub whole : heard ≡ (ask.List, folder, given.Names names) ∷ map heard_source sources
   pub parts : names_of sources ≡ map (file_in folder) (filter is_source names)
 
--- The sources of a package were found, and spell the form.
+-- The sources of a package were found, and have this form.
 pub record ReadsForm (path : Text) (form : SourceForm) (heard : List Hearing) : Type 0 where
   pub sources : List Source
   pub found : FindsSources (folder path) sources heard
@@ -119,7 +120,7 @@ LacksFile name heard =
     (HeardLast (ask.List, name, given.Missing) heard ⊎ HeardLast (ask.Read, name, given.Missing) heard)
     ⊎ ((names : List Text) × HeardLast (ask.List, name, given.Names names) heard × (filter is_source names ≡ []))
 
--- The sources of some package were found last, and have no form.
+-- The sources of some package were found last, and have no trees or no form.
 pub record BadSource (refusal : Refusal) (heard : List Hearing) : Type 0 where
   pub path : Text
   pub sources : List Source
@@ -150,8 +151,8 @@ pub record BadPackage (refusal : Refusal) (heard : List Hearing) : Type 0 where
 -- Nothing is said here of too many packages and of a cycle of imports.
 abbrev pub RefusedBy : Refusal → List Hearing → Type 0
 RefusedBy (NoFile name) heard = LacksFile name heard
-RefusedBy (Form name) heard = BadSource (Form name) heard
-RefusedBy (Faulty fault) heard = BadPackage (Faulty fault) heard
+RefusedBy (Faulty fault) heard = BadSource (Faulty fault) heard ⊎ BadPackage (Faulty fault) heard
+RefusedBy (Form pos) heard = BadSource (Form pos) heard
 RefusedBy (TooLong name) heard = BadLinked (TooLong name) heard
 RefusedBy (BadFrame name fault) heard = BadLinked (BadFrame name fault) heard
 RefusedBy (BadElement name) heard = BadLinked (BadElement name) heard

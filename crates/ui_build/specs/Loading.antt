@@ -8,14 +8,14 @@ use Rattle.ui_frame.specs.declared.frame.FrameFault.{FrameFault}
 use Rattle.ui_exports.specs.Export.{Export}
 use Rattle.ui_exports.specs.Linked.{Linked, Below}
 use Rattle.ui_consts.specs.Reading.{record_in}
-use Rattle.ui_sums.specs.Form.{Form as SourceForm, imported}
-use Rattle.ui_sums.specs.Verdict.{environment_of, verdict}
+use Rattle.ui_forms.specs.Form.{Form as SourceForm, imported}
+use Rattle.ui_forms.specs.Verdict.{environment_of, verdict}
 use Rattle.ui_below.specs.Claims.{claims}
 use Rattle.ui_below.specs.Join.{Apart, joined}
 use Rattle.ui_below.specs.Join as apart
-use Rattle.ui_build.specs.Plan.{Text, Refusal, TooLong, BadFrame, BadElement, TooMany, Cycle, Stale, Entry, Plan, done, settled, ◌>>=◌}
+use Rattle.ui_build.specs.Plan.{Text, Refusal, TooLong, BadFrame, BadElement, TooMany, Cycle, Stale, Entry, Plan, or_fault, done, settled, ◌>>=◌}
 use Rattle.ui_build.specs.Package.{linked_file, file_limit, read_file, read_form}
-use Rattle.ui_build.specs.Build.{or_fault, package_limit}
+use Rattle.ui_build.specs.Build.{package_limit}
 
 -- the fingerprint of a package's linked file
 abbrev pub print_in : Option Text → Text

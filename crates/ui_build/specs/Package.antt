@@ -1,13 +1,15 @@
 -- A package: its folder and files, its sources, and their form.
-use Rattle.std.specs.Prelude.{ℕ, ◌^◌, Bool, ◌&&◌, not, nat_eq, List, [], ◌∷◌, ◌++◌, filter, Option, Some, None, Result, Ok, Err, codes, if◌then◌else◌}
+use Rattle.std.specs.Prelude.{ℕ, ◌^◌, Bool, ◌&&◌, not, nat_eq, List, [], ◌∷◌, ◌++◌, map, filter, Option, Some, None, Result, Ok, Err, codes}
 use Rattle.std.specs.List.{ends_with}
 use Rattle.ui_store.specs.Files.{Files, listing, reading}
 use Rattle.ui_store.specs.declared.fault.StoreFault.{StoreFault}
 use Rattle.ui_store.specs.declared.fault.StoreFault.TheVariants as fault
 use Rattle.ui_store.specs.declared.store.AskKind.TheVariants as ask
-use Rattle.ui_base.specs.Paths.{is_path}
-use Rattle.ui_sums.specs.Form.{Form as SourceForm, form_of, imported}
-use Rattle.ui_build.specs.Plan.{Text, Refusal, NoFile, Form, Plan, done, refused, settled, ◌>>=◌, asking}
+use Rattle.ui_base.specs.declared.value.Pos.{Pos}
+use Rattle.ui_types.specs.declared.check_fault.Fault.{Fault}
+use Rattle.ui_sources.specs.Sources.{Source, SourceTree, Trees, source_limit, trees_of}
+use Rattle.ui_forms.specs.Form.{Form as SourceForm, Source as FormSource, form_of, imports_of}
+use Rattle.ui_build.specs.Plan.{Text, Refusal, NoFile, Faulty, Form, Plan, done, refused, settled, ◌>>=◌, asking}
 
 -- where a package's sources, its unit file and its linked file stand
 abbrev pub folder : Text → Text
@@ -22,20 +24,13 @@ linked_file path = codes "lib/" ++ path ++ codes ".u"
 abbrev pub file_in : Text → Text → Text
 file_in folder name = folder ++ (codes "/" ++ name)
 
--- the most bytes of a source that is read, and of a unit or linked file
-abbrev pub source_limit : ℕ
-source_limit = 1048576
-
+-- the most bytes of a unit or linked file
 abbrev pub file_limit : ℕ
 file_limit = 2 ^ 30
 
 -- the names of a folder that are sources: those in `.go`, but for tests
 abbrev pub is_source : Text → Bool
 is_source name = ends_with nat_eq name (codes ".go") && not (ends_with nat_eq name (codes "_test.go"))
-
--- a source: its name in the store, and its bytes, or nothing where there are more than the limit
-abbrev pub Source : Type 0
-Source = Text × Option Text
 
 -- a call that gave nothing; a device's fault is no answer of told files
 abbrev pub listed_as : Text → Result (List Text) StoreFault → Result (List Text) Refusal
@@ -69,29 +64,39 @@ abbrev pub some_source : Text → List Source → Plan (List Source)
 some_source folder [] = refused (NoFile folder)
 some_source folder (source ∷ sources) = done (source ∷ sources)
 
--- the sources of a package, ascending by name
+-- the sources of a package, in the order in which the store lists them: ascending by name
 abbrev pub find : Files → Text → Plan (List Source)
 find files folder = list_folder files folder >>= λ names. read_sources files folder [] (filter is_source names) >>= λ sources. some_source folder sources
 
--- what one text spells, or the fault at the front of its file
-abbrev pub or_form : Text → Option SourceForm → Result SourceForm Refusal
-or_form name (Some form) = Ok form
-or_form name None = Err (Form name)
+-- a source's tree, as its form is read
+abbrev pub in_form : SourceTree → FormSource
+in_form s = record { name = s.name; tree = s.tree }
 
--- What a package's sources spell. A package of a valid path and of one file that isn't too long is taken.
+abbrev pub or_form : Result SourceForm Pos → Result SourceForm Refusal
+or_form (Ok form) = Ok form
+or_form (Err pos) = Err (Form pos)
+
+-- the form of trees, or the place of what isn't taken
+abbrev pub form_in : Text → Trees → Result SourceForm Refusal
+form_in path trees = or_form (form_of path trees.size (map in_form trees.files))
+
+abbrev pub form_by : Text → Result Trees Fault → Result SourceForm Refusal
+form_by path (Ok trees) = form_in path trees
+form_by path (Err fault) = Err (Faulty fault)
+
+-- The form of a package's sources: all of them have trees, else their first fault, and the trees have a form.
 unfoldable pub form_or : Text → List Source → Result SourceForm Refusal
 form_or path [] = Err (NoFile (folder path))
-form_or path ((name, Some bytes) ∷ []) = if is_path path then or_form name (form_of path name bytes) else Err (Form name)
-form_or path ((name, None) ∷ []) = Err (Form name)
-form_or path ((name, bytes) ∷ other ∷ others) = Err (Form name)
+form_or path (source ∷ sources) = form_by path (trees_of path (source ∷ sources))
 
--- the paths that a form imports, ascending; none where there is no form
-abbrev pub imports_of_form : Result SourceForm Refusal → List Text
-imports_of_form (Ok form) = imported form
-imports_of_form (Err refusal) = []
+-- the paths that trees import, ascending; none where the sources have no trees
+abbrev pub imports_by_trees : Result Trees Fault → List Text
+imports_by_trees (Ok trees) = imports_of (map (λ s. s.tree) trees.files)
+imports_by_trees (Err fault) = []
 
+-- what a package's sources import, whether they have a form or not
 abbrev pub imports_in : Text → List Source → List Text
-imports_in path sources = imports_of_form (form_or path sources)
+imports_in path sources = imports_by_trees (trees_of path sources)
 
 -- the form of a package's sources
 abbrev pub read_form : Files → Text → Plan SourceForm

@@ -3,6 +3,7 @@
 use Rattle.std.specs.Prelude.{ℕ, Bool, List, [], ◌∷◌, ◌++◌, Result, Ok, Err}
 use Rattle.ui_store.specs.Calls.{Ask}
 use Rattle.ui_store.specs.declared.store.AskKind.TheVariants as ask
+use Rattle.ui_base.specs.declared.value.Pos.{Pos}
 use Rattle.ui_types.specs.declared.check_fault.Fault.{Fault}
 use Rattle.ui_frame.specs.declared.frame.FrameFault.{FrameFault}
 use Rattle.ui_exports.specs.Export.{Export}
@@ -14,10 +15,10 @@ Text = List ℕ
 pub data Refusal : Type 0 where
   -- the store has no such file, or no such folder of sources
   NoFile : Text → Refusal
-  -- a source that this build doesn't take, at the front of this file
-  Form : Text → Refusal
   -- the first fault of a package
   Faulty : Fault → Refusal
+  -- the place of what this build doesn't take, in sources that have trees
+  Form : Pos → Refusal
   -- a unit or linked file that is too long, is no container, or holds other elements than those of its package
   TooLong : Text → Refusal
   BadFrame : Text → FrameFault → Refusal
@@ -28,6 +29,11 @@ pub data Refusal : Type 0 where
   Cycle : Text → Refusal
   -- a path, and two fingerprints that are named for it
   Stale : Text → Text → Text → Refusal
+
+-- a package's fault as a refusal
+abbrev pub or_fault : {X : Type 0} → Result X Fault → Result X Refusal
+or_fault (Ok x) = Ok x
+or_fault (Err fault) = Err (Faulty fault)
 
 -- What a package stands for, by the sources alone: its export, and the paths of the packages below it, each with whether
 -- it is a direct import.

@@ -1,13 +1,12 @@
--- Sources as they lie in memory.
-use Rattle.std.specs.Prelude.{List, map, string_bytes, Vec}
-use Rattle.std.specs.Option.{option_map}
+-- Sources as they lie in memory, and their trees.
+use Rattle.std.specs.Prelude.{List, map, Vec}
 use Rattle.std.specs.declared.alloc.Global.{Global}
-use Rattle.ui_build.specs.Package as plans
-use Rattle.ui_build.specs.declared.sources.Source.{Source}
+use Rattle.ui_sources.specs.Sources.{Source, Trees, source_of, source_tree}
+use Rattle.ui_sources.specs.declared.source.Source.{Source as InMemory}
+use Rattle.ui_sources.specs.declared.source.Trees.{Trees as TreesInMemory}
 
--- a source without where it lies
-abbrev pub source : Source → plans.Source
-source s = (string_bytes s.name, option_map (λ v. v.items) s.bytes)
+abbrev pub sources_of : Vec InMemory Global → List Source
+sources_of v = map source_of v.items
 
-abbrev pub sources_of : Vec Source Global → List plans.Source
-sources_of v = map source v.items
+abbrev pub trees_seen : TreesInMemory → Trees
+trees_seen t = record { size = t.size; files = map source_tree t.files.items }

@@ -7,7 +7,7 @@ use Rattle.ui_store.specs.Calls.{Ask, Calls}
 use Rattle.ui_store.specs.declared.store.AskKind.TheVariants as ask
 use Rattle.ui_frame.specs.Laws.{IsBytes}
 use Rattle.ui_consts.specs.Record.{Holds}
-use Rattle.ui_build.specs.Plan.{Text, Refusal, NoFile, Form, Faulty, TooLong, BadFrame, BadElement, TooMany, Cycle, Stale, Entry, Put, Plan}
+use Rattle.ui_build.specs.Plan.{Text, Refusal, NoFile, Faulty, Form, TooLong, BadFrame, BadElement, TooMany, Cycle, Stale, Entry, Put, Plan}
 use Rattle.ui_build.specs.Package.{file_limit}
 use Rattle.ui_build.specs.Loading.{linked_as}
 use Rattle.ui_build.specs.declared.stop.Refusal.{Refusal as Told}
@@ -18,8 +18,8 @@ use Rattle.ui_build.specs.declared.stop.Stop.TheVariants as stop
 -- a refusal, without where its texts lie in memory
 abbrev pub refusal_of : Told → Refusal
 refusal_of (told.NoFile name) = NoFile (string_bytes name)
-refusal_of (told.Form name) = Form (string_bytes name)
 refusal_of (told.Faulty fault) = Faulty fault
+refusal_of (told.Form pos) = Form pos
 refusal_of (told.TooLong name) = TooLong (string_bytes name)
 refusal_of (told.BadFrame name fault) = BadFrame (string_bytes name) fault
 refusal_of (told.BadElement name) = BadElement (string_bytes name)

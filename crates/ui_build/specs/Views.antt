@@ -1,10 +1,6 @@
 -- What was read and joined, as it lies in memory.
 use Rattle.std.specs.Prelude.{Bool, ◌&&◌, nat_eq, length}
-use Rattle.std.specs.List.{list_all}
-use Rattle.ui_base.specs.Names.{is_name}
 use Rattle.ui_base.specs.Paths.{is_path}
-use Rattle.ui_strpos.specs.Elements.{is_some_text}
-use Rattle.ui_sums.specs.Form.{Form as SourceForm}
 use Rattle.ui_build.specs.Plan.{Text}
 use Rattle.ui_build.specs.Loading as plans
 use Rattle.ui_build.specs.Loading.{entry_of}
@@ -16,10 +12,6 @@ loaded_of l = (l.linked, l.print)
 
 abbrev pub imports_of : Imports → plans.Imports
 imports_of i = (i.files.items, i.prints.items)
-
--- A form whose package can be written: its path is valid, its names are names, and its file has one.
-abbrev pub is_named : SourceForm → Bool
-is_named form = is_path form.path && is_name form.name && is_some_text form.file && list_all (λ c. is_name c.name) form.constants
 
 -- a claim of a valid path and a fingerprint of eight bytes
 abbrev pub is_sound : Text → Text → Bool

@@ -7,7 +7,6 @@ ghost use Rattle.ui_build.specs.Plan.{Entry};
 ghost use Rattle.ui_build.specs.Package.{read_form};
 ghost use Rattle.ui_build.specs.Build.{Packages, compile, compile_all, package_limit, write_files};
 ghost use Rattle.ui_build.specs.Loading.{entry_of, linked_as, prepared};
-ghost use Rattle.ui_build.specs.Views.{is_named};
 ghost use Rattle.ui_build.specs.Heard.{Compiles, CompilesAll, Hears, HearsNothing, ReadsForm};
 ghost use Rattle.ui_build.specs.Built.{Compiled, IsInOrder, IsReady, Stands};
 ghost use Rattle.ui_build.specs.Stops.{state, Carries, Does, DoesTold, HasCause};
@@ -22,9 +21,9 @@ use std::alloc::Global;
 use ui_below::list_of_paths;
 use ui_consts::{reads_back, write_linked};
 use ui_exports::Linked;
+use ui_forms::{Form, accepted_forms, verdict_is_local};
 use ui_frame::one_container;
 use ui_store::Store;
-use ui_sums::{Form, verdict_is_local};
 
 // Reads the form of a package's sources.
 fn read_form<S: Store>(alloc: Global, store: &mut S, path: &str) -> Result<Form, Stop>
@@ -33,7 +32,6 @@ fn read_form<S: Store>(alloc: Global, store: &mut S, path: &str) -> Result<Form,
     ensures heard { Hears (λ f. ReadsForm path.now f) (S.heard store.old) (S.heard store.new) result }
     ensures cause { HasCause (S.faults store.old) (S.faults store.new) (S.asked store.new) result }
     ensures own { IfOk result (λ f. f.path ≡ path.now) }
-    ensures named { IfOk result (λ f. is_named f ≡ true) }
 {
     let sources = find(alloc, store, path)?;
     let form = form_in(alloc, path, &sources)?;
@@ -84,6 +82,7 @@ pub fn compile<S: Store>(alloc: Global, store: &mut S, path: &str) -> Result<Lin
     one_container();
     reads_back();
     list_of_paths();
+    accepted_forms();
     verdict_is_local();
     let linked = prepare(alloc, store, path)?;
     write_files(alloc, store, path, &linked)?;

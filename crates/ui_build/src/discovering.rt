@@ -2,43 +2,20 @@
 ghost use Rattle.std.specs.Prelude.{◌≡◌, ◌≤◌, suc, IfOk, map, option_map, string_bytes};
 ghost use Rattle.ui_order.specs.Found.{IsClosed, IsFound, begun, least_unread, with_imports};
 ghost use Rattle.ui_order.specs.Tables.{texts};
+ghost use Rattle.ui_sources.specs.Sources.{source_of};
 ghost use Rattle.ui_build.specs.Plan.{Text};
 ghost use Rattle.ui_build.specs.Package.{imports_in};
 ghost use Rattle.ui_build.specs.Build.{build_order, discover, discover_one, ordered, package_limit, within_limit};
 ghost use Rattle.ui_build.specs.Heard.{Anything, Hears};
-ghost use Rattle.ui_build.specs.Sources.{source};
 ghost use Rattle.ui_build.specs.Stops.{state, DoesTold, HasCause, Settles};
 
-use crate::judging::form_in;
-use crate::names::copy;
-use crate::sources::{Source, find};
+use crate::judging::imports_in;
+use crate::sources::find;
 use crate::stop::{Refusal, Stop};
 use std::alloc::{AllocError, Global};
 use ui_order::{Discovery, Order, PACKAGE_LIMIT, discovery_keeps};
+use ui_sources::Source;
 use ui_store::Store;
-
-// Names of their own with the same bytes.
-fn copy_all(alloc: Global, names: &[String]) -> Result<Vec<String>, AllocError>
-    ensures { IfOk result (λ v. map string_bytes v.items ≡ map string_bytes names.now) }
-{
-    let mut copies = Vec::new(alloc);
-    for name in names {
-        let copied = copy(alloc, name)?;
-        copies.push(copied)?;
-    }
-    Ok(copies)
-}
-
-// The paths that the sources of a package import; none where they have a fault.
-fn imports_in(alloc: Global, path: &str, sources: &[Source]) -> Result<Vec<String>, Stop>
-    ensures { Settles texts (Ok (imports_in path.now (map source sources.now))) result }
-{
-    match form_in(alloc, path, sources) {
-        Ok(form) => Ok(copy_all(alloc, form.imports())?),
-        Err(Stop::Refused(_)) => Ok(Vec::new(alloc)),
-        Err(_) => Err(Stop::NoMemory),
-    }
-}
 
 // A package was found: its imports are found, too, where these aren't too many.
 fn add_package(
@@ -47,8 +24,8 @@ fn add_package(
     path: String,
     sources: &[Source],
 ) -> Result<Discovery, Stop>
-    ensures settled { Settles (λ d. d) (within_limit (with_imports discovery (string_bytes path) (imports_in (string_bytes path) (map source sources.now)))) result }
-    ensures now { IfOk result (λ d. d ≡ with_imports discovery (string_bytes path) (imports_in (string_bytes path) (map source sources.now))) }
+    ensures settled { Settles (λ d. d) (within_limit (with_imports discovery (string_bytes path) (imports_in (string_bytes path) (map source_of sources.now)))) result }
+    ensures now { IfOk result (λ d. d ≡ with_imports discovery (string_bytes path) (imports_in (string_bytes path) (map source_of sources.now))) }
 {
     let mut more = discovery;
     let imports = imports_in(alloc, path.as_str(), sources)?;

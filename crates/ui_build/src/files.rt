@@ -14,9 +14,6 @@ use ui_store::{Store, StoreFault};
 /// The most bytes of a unit or linked file.
 pub const FILE_LIMIT: usize = 1 << 30;
 
-/// The most bytes of a source that is read.
-pub const SOURCE_LIMIT: usize = 1048576;
-
 /// The names in a folder, ascending.
 pub fn list_folder<S: Store>(
     alloc: Global,

@@ -1,58 +1,80 @@
 // The form of a package's sources, and what it stands for by the linked files of its imports.
-ghost use Rattle.std.specs.Prelude.{◌≡◌, ◌≤◌, true, [], ◌∷◌, IfOk, map, length};
+ghost use Rattle.std.specs.Prelude.{◌≡◌, ◌≤◌, true, Ok, IfOk, map, length};
 ghost use Rattle.std.specs.List.{list_all};
 ghost use Rattle.ui_exports.specs.Linked.{belows};
-ghost use Rattle.ui_sums.specs.Form.{imported};
-ghost use Rattle.ui_sums.specs.Verdict.{environment_of, verdict};
+ghost use Rattle.ui_order.specs.Tables.{texts};
+ghost use Rattle.ui_sources.specs.Sources.{source_of, trees_of};
+ghost use Rattle.ui_forms.specs.Verdict.{environment_of, verdict};
 ghost use Rattle.ui_consts.specs.Size.{HasNames, IsListed, IsSmall, IsSmallExport};
 ghost use Rattle.ui_below.specs.Claims.{claims};
 ghost use Rattle.ui_below.specs.Join.{joined};
-ghost use Rattle.ui_build.specs.Package.{form_or};
-ghost use Rattle.ui_build.specs.Build.{or_fault, package_limit};
+ghost use Rattle.ui_build.specs.Plan.{or_fault};
+ghost use Rattle.ui_build.specs.Package.{form_in, form_or, imports_in};
+ghost use Rattle.ui_build.specs.Build.{package_limit};
 ghost use Rattle.ui_build.specs.Loading.{judgement, or_apart};
-ghost use Rattle.ui_build.specs.Views.{imports_of, is_named, is_sound};
-ghost use Rattle.ui_build.specs.Sources.{source};
+ghost use Rattle.ui_build.specs.Views.{imports_of, is_sound};
+ghost use Rattle.ui_build.specs.Sources.{trees_seen};
 ghost use Rattle.ui_build.specs.Stops.{Settles};
 
 use crate::loading::Imports;
-use crate::names::{copy, folder};
-use crate::sources::Source;
+use crate::names::folder;
 use crate::stop::{Refusal, Stop};
 use std::alloc::Global;
-use ui_base::is_path;
 use ui_below::{JoinFault, join, list_of_paths};
 use ui_exports::{Below, Linked, Package};
+use ui_forms::{Form, FormFault, accepted_forms, check, form_of, imports_of};
 use ui_order::PACKAGE_LIMIT;
-use ui_sums::{Form, check};
+use ui_sources::{Source, Trees, import_paths_are_valid, read_trees};
 use ui_types::CheckFault;
 
-/// What the sources of a package spell, or the fault at the front of its first file.
-#[tactic(auto, unfolding(crate::specs::Package::form_or))]
-pub fn form_in(alloc: Global, path: &str, sources: &[Source]) -> Result<Form, Stop>
-    ensures settled { Settles (λ f. f) (form_or path.now (map source sources.now)) result }
-    ensures own { IfOk result (λ f. f.path ≡ path.now) }
+// The trees of a package's sources, or their first fault.
+fn trees_in(alloc: Global, path: &str, sources: &[Source]) -> Result<Trees, Stop>
+    ensures { Settles trees_seen (or_fault (trees_of path.now (map source_of sources.now))) result }
 {
-    match sources {
-        [] => Err(Stop::Refused(Refusal::NoFile(folder(alloc, path)?))),
-        [only] => form_of_one(alloc, path, only),
-        [first, ..] => Err(Stop::Refused(Refusal::Form(copy(alloc, &first.name)?))),
+    match read_trees(alloc, path, sources) {
+        Ok(trees) => Ok(trees),
+        Err(CheckFault::Fault(fault)) => Err(Stop::Refused(Refusal::Faulty(fault))),
+        Err(CheckFault::NoMemory) => Err(Stop::NoMemory),
     }
 }
 
-// What one source spells, or the fault at its front.
-#[tactic(auto, unfolding(crate::specs::Package::form_or))]
-fn form_of_one(alloc: Global, path: &str, only: &Source) -> Result<Form, Stop>
-    ensures settled { Settles (λ f. f) (form_or path.now (source only.now ∷ [])) result }
+// The form of trees, or the place of what isn't taken.
+fn form_of_trees(alloc: Global, path: &str, trees: &Trees) -> Result<Form, Stop>
+    ensures settled { Settles (λ f. f) (form_in path.now (trees_seen trees.now)) result }
     ensures own { IfOk result (λ f. f.path ≡ path.now) }
 {
-    if let Some(bytes) = &only.bytes {
-        if is_path(path.as_bytes()) {
-            if let Some(form) = ui_sums::read_form(alloc, path, only.name.as_str(), bytes)? {
-                return Ok(form);
-            }
-        }
+    accepted_forms();
+    match form_of(alloc, path, trees.size, &trees.files) {
+        Ok(form) => Ok(form),
+        Err(FormFault::NotTaken(pos)) => Err(Stop::Refused(Refusal::Form(pos))),
+        Err(FormFault::NoMemory) => Err(Stop::NoMemory),
     }
-    Err(Stop::Refused(Refusal::Form(copy(alloc, &only.name)?)))
+}
+
+/// The form of a package's sources, or their first fault, or the place of what isn't taken.
+#[tactic(auto, unfolding(crate::specs::Package::form_or))]
+pub fn form_in(alloc: Global, path: &str, sources: &[Source]) -> Result<Form, Stop>
+    ensures settled { Settles (λ f. f) (form_or path.now (map source_of sources.now)) result }
+    ensures own { IfOk result (λ f. f.path ≡ path.now) }
+{
+    if sources.is_empty() {
+        return Err(Stop::Refused(Refusal::NoFile(folder(alloc, path)?)));
+    }
+    let trees = trees_in(alloc, path, sources)?;
+    let form = form_of_trees(alloc, path, &trees)?;
+    Ok(form)
+}
+
+/// The paths that the sources of a package import, whether they have a form or not; none where one of them has a fault.
+pub fn imports_in(alloc: Global, path: &str, sources: &[Source]) -> Result<Vec<String>, Stop>
+    ensures { Settles texts (Ok (imports_in path.now (map source_of sources.now))) result }
+{
+    import_paths_are_valid();
+    match read_trees(alloc, path, sources) {
+        Ok(trees) => Ok(imports_of(alloc, &trees.files)?),
+        Err(CheckFault::Fault(_)) => Ok(Vec::new(alloc)),
+        Err(CheckFault::NoMemory) => Err(Stop::NoMemory),
+    }
 }
 
 // The packages below, by the linked files of the imports.
@@ -83,8 +105,6 @@ fn below_in(alloc: Global, path: &str, imports: &Imports) -> Result<Vec<Below>, 
 
 // What a package exports, or its first fault.
 fn export_of(alloc: Global, form: &Form, files: &[Linked]) -> Result<Package, Stop>
-    requires named { is_named form.now ≡ true }
-    requires paths { map (λ l. l.export.path) files.now ≡ imported form.now }
     ensures settled { Settles (λ p. p) (or_fault (verdict (environment_of files.now) form.now)) result }
     ensures own { IfOk result (λ p. p.path ≡ form.now.path) }
     ensures named { IfOk result HasNames }
@@ -100,8 +120,6 @@ fn export_of(alloc: Global, form: &Form, files: &[Linked]) -> Result<Package, St
 /// What a package of this form stands for, by the linked files of its imports.
 pub fn judge(alloc: Global, path: &str, form: &Form, imports: &Imports) -> Result<Linked, Stop>
     requires own { form.now.path ≡ path.now }
-    requires named { is_named form.now ≡ true }
-    requires paths { map (λ l. l.export.path) imports.now.files.items ≡ imported form.now }
     requires paired { length imports.now.files.items ≡ length imports.now.prints.items }
     requires sound { list_all (λ c. is_sound c.path c.print) (claims imports.now.files.items imports.now.prints.items) ≡ true }
     ensures settled { Settles (λ l. l) (judgement path.now form.now (imports_of imports.now)) result }

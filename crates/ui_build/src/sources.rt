@@ -1,22 +1,17 @@
-// The sources of a package: found in its folder, read, and judged.
+// The sources of a package: found in its folder, and read.
 ghost use Rattle.std.specs.Prelude.{◌≡◌, ◌≤◌, [], IfOk, filter, map, string_bytes};
+ghost use Rattle.ui_sources.specs.Sources.{source_of};
 ghost use Rattle.ui_build.specs.Package.{find, read_source, read_sources, is_source, folder, file_in};
 ghost use Rattle.ui_build.specs.Heard.{FindsSources, HasRead, Hears, ReadsSources};
 ghost use Rattle.ui_build.specs.Stops.{state, DoesTold, HasCause};
-ghost use Rattle.ui_build.specs.Sources.{source, sources_of};
+ghost use Rattle.ui_build.specs.Sources.{sources_of};
 
-use crate::files::{SOURCE_LIMIT, list_folder, read_file};
+use crate::files::{list_folder, read_file};
 use crate::names::{self, copy, file_in};
 use crate::stop::{Refusal, Stop};
 use std::alloc::Global;
+use ui_sources::{SOURCE_LIMIT, Source};
 use ui_store::Store;
-
-/// A source: its name in the store, and its bytes, or nothing where there are more than the limit.
-#[derive(Drop)]
-pub struct Source {
-    pub name: String,
-    pub bytes: Option<Vec<u8>>,
-}
 
 // Whether a name in a folder is that of a source: it ends in `.go`, and not in `_test.go`.
 fn is_source(name: &str) -> bool
@@ -33,9 +28,9 @@ fn read_source<S: Store>(
     folder: &str,
     part: &str,
 ) -> Result<Source, Stop>
-    ensures does { DoesTold source (λ told. read_source told (file_in folder.now part.now)) (state (S.files store.old) (S.asked store.old)) (state (S.files store.new) (S.asked store.new)) result }
+    ensures does { DoesTold source_of (λ told. read_source told (file_in folder.now part.now)) (state (S.files store.old) (S.asked store.old)) (state (S.files store.new) (S.asked store.new)) result }
     ensures files { S.files store.new ≡ S.files store.old }
-    ensures heard { Hears (λ s. HasRead (source s)) (S.heard store.old) (S.heard store.new) result }
+    ensures heard { Hears (λ s. HasRead (source_of s)) (S.heard store.old) (S.heard store.new) result }
     ensures name { IfOk result (λ s. string_bytes s.name ≡ file_in folder.now part.now) }
     ensures cause { HasCause (S.faults store.old) (S.faults store.new) (S.asked store.new) result }
 {
@@ -68,7 +63,7 @@ fn read_sources<S: Store>(
     Ok(sources)
 }
 
-/// Finds and reads the sources of a package, ascending by name.
+/// Finds and reads the sources of a package, in the order in which the store lists them: ascending by name.
 pub fn find<S: Store>(alloc: Global, store: &mut S, path: &str) -> Result<Vec<Source>, Stop>
     ensures does { DoesTold sources_of (λ told. find told (folder path.now)) (state (S.files store.old) (S.asked store.old)) (state (S.files store.new) (S.asked store.new)) result }
     ensures files { S.files store.new ≡ S.files store.old }

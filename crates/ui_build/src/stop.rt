@@ -2,7 +2,7 @@
 ghost use Rattle.std.specs.Prelude.{◌≡◌};
 
 use std::alloc::{AllocError, AllocFailed};
-use ui_base::Text;
+use ui_base::{Pos, Text};
 use ui_frame::FrameFault;
 use ui_types::Fault;
 
@@ -11,10 +11,10 @@ use ui_types::Fault;
 pub enum Refusal {
     /// There is no such file, or no such folder of sources.
     NoFile(String),
-    /// A source that isn't taken: the fault `Form` at its front.
-    Form(String),
     /// The first fault of a package.
     Faulty(Fault),
+    /// The place of what isn't taken in sources that have trees: the fault `Form`.
+    Form(Pos),
     /// A linked file that is longer than the limit.
     TooLong(String),
     /// A linked file that is no container: the first test that fails.

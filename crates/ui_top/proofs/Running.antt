@@ -7,7 +7,7 @@ use Rattle.ui_store.specs.Sinks.{Partly, partly_none}
 use Rattle.ui_store.specs.Files.{Files}
 use Rattle.ui_store.specs.Calls.{Hearing}
 use Rattle.ui_exports.specs.Export.{Export}
-use Rattle.ui_build.specs.Plan.{Text, Refusal, NoFile, Form, Faulty, TooLong, BadFrame, BadElement, TooMany, Cycle, Stale, Plan}
+use Rattle.ui_build.specs.Plan.{Text, Refusal, NoFile, Faulty, Form, TooLong, BadFrame, BadElement, TooMany, Cycle, Stale, Plan}
 use Rattle.ui_build.specs.Build.{build}
 use Rattle.ui_top.specs.Answers.{answers, are_answered}
 use Rattle.ui_top.specs.Outcome.{Outcome, Command, Build, outcome, of_plan, ends_of, out_of, line_of, refused_as, refusal_line}
@@ -50,7 +50,7 @@ stop_reaches queries plan old new stop.NoMemory does out said = inl (stops_excus
 -- what was heard is why
 refusal_caused : (path : Text) (queries : List Text) (old new : Scene) (r : Refusal) (heard : List Hearing) → new.heard ≡ more old.heard heard → RefusedBy r heard → Said (refusal_line r) old new → new.out ≡ old.out → Caused (Build path queries) old new (refused_as r)
 refusal_caused path queries old new (NoFile name) heard told by said out = record { refusal = NoFile name; heard = heard; told = told; refused = by; status = refl; line = said; out = out }
-refusal_caused path queries old new (Form name) heard told by said out = record { refusal = Form name; heard = heard; told = told; refused = by; status = refl; line = said; out = out }
+refusal_caused path queries old new (Form pos) heard told by said out = record { refusal = Form pos; heard = heard; told = told; refused = by; status = refl; line = said; out = out }
 refusal_caused path queries old new (Faulty fault) heard told by said out = record { refusal = Faulty fault; heard = heard; told = told; refused = by; status = refl; line = said; out = out }
 refusal_caused path queries old new (TooLong name) heard told by said out = record { refusal = TooLong name; heard = heard; told = told; refused = by; status = refl; line = said; out = out }
 refusal_caused path queries old new (BadFrame name fault) heard told by said out = record { refusal = BadFrame name fault; heard = heard; told = told; refused = by; status = refl; line = said; out = out }

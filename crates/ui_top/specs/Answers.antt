@@ -3,7 +3,7 @@ use Rattle.std.specs.Prelude.{ℕ, Bool, true, false, List, ◌++◌, take, drop
 use Rattle.std.specs.List.{list_all}
 use Rattle.std.specs.FinMap.{get}
 use Rattle.ui_exports.specs.Export.{Export}
-use Rattle.ui_sums.specs.Words.{is_ascii_name}
+use Rattle.ui_forms.specs.Words.{is_ascii_name}
 use Rattle.ui_build.specs.Plan.{Text}
 
 -- a name, where it is one

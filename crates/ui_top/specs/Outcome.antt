@@ -10,7 +10,7 @@ use Rattle.ui_frame.specs.declared.frame.FrameFault.TheVariants as frame
 use Rattle.ui_types.specs.declared.check_fault.Fault.{Fault}
 use Rattle.ui_base.specs.declared.value.Pos.{Pos}
 use Rattle.ui_exports.specs.Export.{Export}
-use Rattle.ui_build.specs.Plan.{Text, Refusal, NoFile, Form, Faulty, TooLong, BadFrame, BadElement, TooMany, Cycle, Stale, Put, Plan}
+use Rattle.ui_build.specs.Plan.{Text, Refusal, NoFile, Faulty, Form, TooLong, BadFrame, BadElement, TooMany, Cycle, Stale, Put, Plan}
 use Rattle.ui_build.specs.Build.{build}
 use Rattle.ui_top.specs.Answers.{answers, are_answered}
 use Rattle.ui_top.specs.Kinds.{kind_text}
@@ -36,8 +36,8 @@ line label name = label ++ name ++ codes "\n"
 
 abbrev pub refused_as : Refusal → Status
 refused_as (NoFile name) = status.NoFile
-refused_as (Form name) = status.Refused
 refused_as (Faulty fault) = status.Refused
+refused_as (Form pos) = status.Refused
 refused_as (TooLong name) = status.BadFile
 refused_as (BadFrame name fault) = status.BadFile
 refused_as (BadElement name) = status.BadFile
@@ -63,16 +63,19 @@ abbrev pub name_end : Text → Text
 name_end [] = codes "\n"
 name_end (x ∷ xs) = codes " " ++ (x ∷ xs) ++ codes "\n"
 
+abbrev pub line_at : Pos → Text → Text → Text
+line_at pos word name = place pos ++ word ++ name_end name
+
 abbrev pub fault_line : Fault → Text
-fault_line fault = place fault.pos ++ kind_text fault.kind ++ name_end fault.name
+fault_line fault = line_at fault.pos (kind_text fault.kind) fault.name
 
 abbrev pub stale_line : Text → Text → Text → Text
 stale_line path first second = (codes "stale: " ++ path ++ codes " ") ++ (encode_lower first ++ codes " " ++ encode_lower second) ++ codes "\n"
 
 abbrev pub refusal_line : Refusal → Text
 refusal_line (NoFile name) = codes "no file: " ++ name ++ codes "\n"
-refusal_line (Form name) = name ++ codes ":1:1: Form\n"
 refusal_line (Faulty fault) = fault_line fault
+refusal_line (Form pos) = line_at pos (codes "Form") []
 refusal_line (TooLong name) = codes "bad file: " ++ name ++ codes ": TooLong\n"
 refusal_line (BadFrame name fault) = codes "bad file: " ++ name ++ frame_end fault
 refusal_line (BadElement name) = codes "bad file: " ++ name ++ codes ": Element\n"

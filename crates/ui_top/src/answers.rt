@@ -9,8 +9,8 @@ ghost use Rattle.ui_top.specs.Outcome.{words_of};
 use itoa::Buffer;
 use std::alloc::{AllocError, Global};
 use ui_exports::Package;
+use ui_forms::is_ascii_name;
 use ui_store::{Sink, put_all};
-use ui_sums::is_ascii_name;
 
 /// Why the answers were not written to their end.
 #[derive(Clone, Copy, Debug, PartialEq, Eq)]

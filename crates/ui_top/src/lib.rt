@@ -13,6 +13,8 @@ pub use status::Status;
 #[cfg(test)]
 mod forged_tests;
 #[cfg(test)]
+mod layout_tests;
+#[cfg(test)]
 mod several_tests;
 #[cfg(test)]
 mod tests;

@@ -5,8 +5,7 @@ ghost use Rattle.ui_store.specs.Causes.{HasCause};
 ghost use Rattle.ui_store.specs.Told.{more};
 ghost use Rattle.ui_store.specs.Sinks.{Partly};
 ghost use Rattle.ui_top.specs.Scene.{Says};
-ghost use Rattle.ui_top.specs.Kinds.{kind_text};
-ghost use Rattle.ui_top.specs.Outcome.{refused_as, refusal_line, frame_end, place, name_end, fault_line, stale_line};
+ghost use Rattle.ui_top.specs.Outcome.{refused_as, refusal_line, frame_end, place, name_end, line_at, stale_line};
 ghost use Rattle.ui_top.specs.Ends.{stop_line, status_of, answers_line, answers_status};
 ghost use Rattle.ui_build.specs.Stops.{refusal_of};
 
@@ -18,7 +17,6 @@ use ui_base::Pos;
 use ui_build::{Refusal, Stop};
 use ui_frame::FrameFault;
 use ui_store::{IoFault, Sink, put_all};
-use ui_types::Fault;
 
 // Three texts, one after another.
 #[tactic(auto, using(std::proofs::lemmas::Grind::common_steps, ui_store::specs::Told::growing, ui_store::specs::Sinks::fronts))]
@@ -140,24 +138,24 @@ fn put_name<E: Sink>(err: &mut E, name: &[u8]) -> Result<(), IoFault>
     }
 }
 
-// The fault of a package.
+// A place, a word, and the name that it speaks of.
 #[tactic(auto, using(std::proofs::lemmas::Grind::common_steps, ui_store::specs::Told::growing, ui_store::specs::Sinks::fronts))]
-fn put_fault<E: Sink>(err: &mut E, fault: &Fault) -> Result<(), IoFault>
-    ensures ok { OnOk result (E.written err.new ≡ more (E.written err.old) (fault_line fault.now)) }
-    ensures err { OnErr result (Partly (E.written err.old) (E.written err.new) (fault_line fault.now)) }
+fn put_fault<E: Sink>(err: &mut E, pos: &Pos, word: &[u8], name: &[u8]) -> Result<(), IoFault>
+    ensures ok { OnOk result (E.written err.new ≡ more (E.written err.old) (line_at pos.now word.now name.now)) }
+    ensures err { OnErr result (Partly (E.written err.old) (E.written err.new) (line_at pos.now word.now name.now)) }
     ensures cause { HasCause (E.faults err.old) (E.faults err.new) result }
 {
-    put_place(err, &fault.pos)?;
-    put_all(err, kind_text(fault.kind).as_bytes())?;
-    put_name(err, fault.name.bytes())?;
+    put_place(err, pos)?;
+    put_all(err, word)?;
+    put_name(err, name)?;
     Ok(())
 }
 
 // Says the fault of a package.
-fn say_fault<E: Sink>(err: &mut E, fault: &Fault)
-    ensures { Says (fault_line fault.now) (E.faults err.old) (E.faults err.new) (E.written err.old) (E.written err.new) }
+fn say_fault<E: Sink>(err: &mut E, pos: &Pos, word: &[u8], name: &[u8])
+    ensures { Says (line_at pos.now word.now name.now) (E.faults err.old) (E.faults err.new) (E.written err.old) (E.written err.new) }
 {
-    let _ = put_fault(err, fault);
+    let _ = put_fault(err, pos, word, name);
 }
 
 // A path, and two fingerprints that are named for it.
@@ -197,12 +195,17 @@ fn report_refusal<E: Sink>(refusal: &Refusal, err: &mut E) -> Status
             say(err, b"no file: ", name.as_bytes(), b"\n");
             Status::NoFile
         }
-        Refusal::Form(name) => {
-            say(err, b"", name.as_bytes(), b":1:1: Form\n");
+        Refusal::Faulty(fault) => {
+            say_fault(
+                err,
+                &fault.pos,
+                kind_text(fault.kind).as_bytes(),
+                fault.name.bytes(),
+            );
             Status::Refused
         }
-        Refusal::Faulty(fault) => {
-            say_fault(err, fault);
+        Refusal::Form(pos) => {
+            say_fault(err, pos, b"Form", b"");
             Status::Refused
         }
         Refusal::TooLong(name) => {

@@ -106,7 +106,14 @@ fn faults_of_a_package(rt: HostRuntime) -> Result<(), Fail> {
         "",
         "src/b/b.go:5:15: Undefined Z\n",
     )?;
-    case(&rt, &[own], "decl M", refused, "", "src/b/b.go:1:1: Form\n")?;
+    case(
+        &rt,
+        &[own],
+        "decl M",
+        refused,
+        "",
+        "src/b/b.go:3:8: BadImportPath\n",
+    )?;
     let mut store = store_of(alloc, &[A, unused])?;
     run_words(alloc, &["build", "b"], &mut store, 0)?;
     assert!(rt; store.file("unit/a.u").is_some() && store.file("lib/a.u").is_some());
@@ -260,7 +267,7 @@ fn put_hub(alloc: Global, store: &mut MemStore, hub: u32, leaves: u32) -> Result
     Ok(())
 }
 
-// A package that imports four packages, which import so many, of which the first compiled has no form.
+// A package that imports four packages, which import so many, of which the first compiled is no file.
 fn wide(alloc: Global, leaves: u32) -> Result<MemStore, AllocError> {
     let root = "package r\nimport \"h0\"\nimport \"h1\"\nimport \"h2\"\nimport \"h3\"\n";
     let mut store = store_of(alloc, &[("r", root)])?;
@@ -279,7 +286,13 @@ fn as_many_packages_as_may_be_found(rt: HostRuntime) -> Result<(), Fail> {
     let alloc = rt.alloc();
     let mut most = wide(alloc, 1019)?;
     let ended = run_words(alloc, &["build", "r"], &mut most, 0)?;
-    compare(&rt, &ended, Status::Refused, "", "src/p0/p0.go:1:1: Form\n");
+    compare(
+        &rt,
+        &ended,
+        Status::Refused,
+        "",
+        "src/p0/p0.go:1:1: Unexpected\n",
+    );
     Ok(())
 }
 

@@ -151,8 +151,6 @@ fn case(
 const USAGE: &str =
     "usage: goui build PATH [QUERY]... | compile PATH | link PATH | dump PATH [QUERY]... | ask PATH | frame NAME | gen N\n";
 
-const FORM: &str = "src/a/a.go:1:1: Form\n";
-
 #[test]
 fn each_end_of_a_build(rt: HostRuntime) -> Result<(), Fail> {
     let refused = "refused: NoSuch a.M\nconst a.N untyped int = 7\n";
@@ -197,7 +195,7 @@ fn each_end_of_a_build(rt: HostRuntime) -> Result<(), Fail> {
         &["build", "a"],
         Status::Refused,
         "",
-        FORM,
+        "src/a/a.go:3:11: Form\n",
     )?;
     case(
         &rt,
@@ -205,7 +203,7 @@ fn each_end_of_a_build(rt: HostRuntime) -> Result<(), Fail> {
         &["build", "a"],
         Status::Refused,
         "",
-        FORM,
+        "src/a/a.go:1:1: Form\n",
     )?;
     case(&rt, SEVEN, &[], Status::Usage, "", USAGE)?;
     case(&rt, SEVEN, &["gen", "0"], Status::Usage, "", USAGE)?;
@@ -229,9 +227,10 @@ fn a_refused_package_writes_nothing(rt: HostRuntime) -> Result<(), Fail> {
     run_words(alloc, &["build", "a"], &mut store, 1000)?;
     assert!(rt; store.file("unit/a.u").is_none() && store.file("lib/a.u").is_none());
     let mut several = store_of(alloc, SEVEN, &[], 0)?;
-    several.put(alloc, "src/a/b.go", b"package a\n")?;
+    several.put(alloc, "src/a/b.go", b"package a\n\nconst N = 7\n")?;
     let ended = run_words(alloc, &["build", "a"], &mut several, 1000)?;
-    assert_eq!(rt; ended.err.written(), FORM.as_bytes());
+    assert_eq!(rt; ended.err.written(), b"src/a/a.go:1:1: Form\n".as_slice());
+    assert!(rt; several.file("unit/a.u").is_none() && several.file("lib/a.u").is_none());
     let mut tests_alone = MemStore::new(alloc, Vec::new(alloc), 0);
     tests_alone.put(alloc, "src/a/a_test.go", SEVEN.as_bytes())?;
     tests_alone.put(alloc, "src/a/notes.txt", SEVEN.as_bytes())?;

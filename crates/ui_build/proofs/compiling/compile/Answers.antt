@@ -10,13 +10,13 @@ use Rattle.ui_build.proofs.compiling.compile.Goals as goal
 pub returns-in_err-linked-clause-does : goal.returns-in_err-linked-clause-does
 returns-in_err-linked-clause-does g c =
     let p = err_from_is_err_and c.from_residual.result c.from_residual.ensures.1 in
-    let laws : Laws = record { containers = record { passes = c.one_container.ensures.passes; found = c.one_container.ensures.found; one = c.one_container.ensures.one }; records = c.reads_back.ensures; joins = c.list_of_paths.ensures.marked; marks = c.list_of_paths.ensures.marks; local = c.verdict_is_local.ensures } in
+    let laws : Laws = record { containers = record { passes = c.one_container.ensures.passes; found = c.one_container.ensures.found; one = c.one_container.ensures.one }; records = c.reads_back.ensures; joins = c.list_of_paths.ensures.marked; marks = c.list_of_paths.ensures.marks; local = c.verdict_is_local.ensures; found = c.accepted_forms.ensures.found } in
     λ files told packages at ready. rw (p.1, p.2) (prepared_stop laws files told packages c.args.path.now (state (g.S.Store.files c.args.store.now) (g.S.Store.asked c.args.store.now)) (state (g.S.Store.files c.prepare.new.store) (g.S.Store.asked c.prepare.new.store)) c.in_err-linked.field-0.0 at ready c.in_err-linked.ensures.does)
 
 pub returns-in_err-write_files-clause-does : goal.returns-in_err-write_files-clause-does
 returns-in_err-write_files-clause-does g c =
     let p = err_from_is_err_and c.from_residual-in_err-write_files.result c.from_residual-in_err-write_files.ensures.1 in
-    let laws : Laws = record { containers = record { passes = c.one_container.ensures.passes; found = c.one_container.ensures.found; one = c.one_container.ensures.one }; records = c.reads_back.ensures; joins = c.list_of_paths.ensures.marked; marks = c.list_of_paths.ensures.marks; local = c.verdict_is_local.ensures } in
+    let laws : Laws = record { containers = record { passes = c.one_container.ensures.passes; found = c.one_container.ensures.found; one = c.one_container.ensures.one }; records = c.reads_back.ensures; joins = c.list_of_paths.ensures.marked; marks = c.list_of_paths.ensures.marks; local = c.verdict_is_local.ensures; found = c.accepted_forms.ensures.found } in
     let old = state (g.S.Store.files c.args.store.now) (g.S.Store.asked c.args.store.now) in
     let mid = state (g.S.Store.files c.prepare.new.store) (g.S.Store.asked c.prepare.new.store) in
     let new = state (g.S.Store.files c.write_files.new.store) (g.S.Store.asked c.write_files.new.store) in
@@ -26,7 +26,7 @@ returns-in_err-write_files-clause-does g c =
 
 pub returns-clause-does : goal.returns-clause-does
 returns-clause-does g c =
-    let laws : Laws = record { containers = record { passes = c.one_container.ensures.passes; found = c.one_container.ensures.found; one = c.one_container.ensures.one }; records = c.reads_back.ensures; joins = c.list_of_paths.ensures.marked; marks = c.list_of_paths.ensures.marks; local = c.verdict_is_local.ensures } in
+    let laws : Laws = record { containers = record { passes = c.one_container.ensures.passes; found = c.one_container.ensures.found; one = c.one_container.ensures.one }; records = c.reads_back.ensures; joins = c.list_of_paths.ensures.marked; marks = c.list_of_paths.ensures.marks; local = c.verdict_is_local.ensures; found = c.accepted_forms.ensures.found } in
     let old = state (g.S.Store.files c.args.store.now) (g.S.Store.asked c.args.store.now) in
     let mid = state (g.S.Store.files c.prepare.new.store) (g.S.Store.asked c.prepare.new.store) in
     let new = state (g.S.Store.files c.write_files.new.store) (g.S.Store.asked c.write_files.new.store) in
@@ -36,7 +36,7 @@ returns-clause-does g c =
 
 pub returns-clause-stands : goal.returns-clause-stands
 returns-clause-stands g c =
-    let laws : Laws = record { containers = record { passes = c.one_container.ensures.passes; found = c.one_container.ensures.found; one = c.one_container.ensures.one }; records = c.reads_back.ensures; joins = c.list_of_paths.ensures.marked; marks = c.list_of_paths.ensures.marks; local = c.verdict_is_local.ensures } in
+    let laws : Laws = record { containers = record { passes = c.one_container.ensures.passes; found = c.one_container.ensures.found; one = c.one_container.ensures.one }; records = c.reads_back.ensures; joins = c.list_of_paths.ensures.marked; marks = c.list_of_paths.ensures.marks; local = c.verdict_is_local.ensures; found = c.accepted_forms.ensures.found } in
     let old = state (g.S.Store.files c.args.store.now) (g.S.Store.asked c.args.store.now) in
     let mid = state (g.S.Store.files c.prepare.new.store) (g.S.Store.asked c.prepare.new.store) in
     let new = state (g.S.Store.files c.write_files.new.store) (g.S.Store.asked c.write_files.new.store) in

@@ -3,7 +3,7 @@ use Rattle.std.specs.List.{AllByRecursion}
 use Rattle.std.proofs.lemmas.Result.{err_from_is_err_and}
 use Rattle.ui_base.specs.Paths.{is_path}
 use Rattle.ui_exports.specs.Linked.{Linked}
-use Rattle.ui_sums.specs.Form.{Form as SourceForm, imported}
+use Rattle.ui_forms.specs.Form.{Form as SourceForm, imported}
 use Rattle.ui_build.specs.Plan.{Text, settled, ◌>>=◌}
 use Rattle.ui_build.specs.Package.{read_form}
 use Rattle.ui_build.specs.Loading.{load_all, judgement}
@@ -16,9 +16,6 @@ use Rattle.ui_build.proofs.compiling.prepare.Goals as goal
 
 pub load_all-requires : goal.load_all-requires
 load_all-requires g c = let P : List Text → Type 0 = AllByRecursion (λ p. is_path p ≡ true) in subst P (sym c.imports.ensures.paths) c.imports.ensures.valid
-
-pub judge-requires-clause-paths : goal.judge-requires-clause-paths
-judge-requires-clause-paths g c = c.in_ok-imports.ensures.paths ∙ c.imports.ensures.paths
 
 pub returns-in_err-form-clause-does : goal.returns-in_err-form-clause-does
 returns-in_err-form-clause-does g c =

@@ -1,12 +1,11 @@
-use Rattle.std.proofs.Common.{◌≡◌, refl, Ok, Err, filter}
+use Rattle.std.proofs.Common.{◌≡◌, refl, Ok, Err}
 use Rattle.std.proofs.lemmas.Result.{err_from_is_err_and}
-use Rattle.ui_sums.specs.Form.{Form as SourceForm}
-use Rattle.ui_build.specs.Package.{folder, find, form_or, is_source}
+use Rattle.ui_forms.specs.Form.{Form as SourceForm}
+use Rattle.ui_build.specs.Package.{folder, find, form_or}
 use Rattle.ui_build.specs.Plan.{settled}
 use Rattle.ui_build.specs.Sources.{sources_of}
 use Rattle.ui_build.specs.Heard.{FindsSources, ReadsForm}
 use Rattle.ui_build.specs.Stops.{state, SettlesStop}
-use Rattle.ui_build.proofs.FormNames.{found_names}
 use Rattle.ui_build.proofs.Hearing.{heard_stop, heard_settled, heard_value, form_stopped, reads_form}
 use Rattle.ui_build.proofs.Steps.{told_stop, told_settled}
 use Rattle.ui_build.proofs.compiling.read_form.Goals as goal
@@ -45,9 +44,3 @@ pub returns-clause-heard : goal.returns-clause-heard
 returns-clause-heard g c =
     let settled : form_or c.args.path.now (sources_of c.in_ok-sources.sources) ≡ Ok c.in_ok-form.form = rw c.deref.ensures.value at c.in_ok-form.ensures.settled in
     heard_value (λ v. FindsSources (folder c.args.path.now) (sources_of v)) (λ (f : SourceForm). ReadsForm c.args.path.now f) c.in_ok-sources.sources c.in_ok-form.form _ _ _ refl (λ x f. reads_form c.args.path.now (sources_of c.in_ok-sources.sources) c.in_ok-form.form x settled f) c.in_ok-sources.ensures.heard
-
-pub returns-clause-named : goal.returns-clause-named
-returns-clause-named g c =
-    let settled : form_or c.args.path.now (sources_of c.in_ok-sources.sources) ≡ Ok c.in_ok-form.form = rw c.deref.ensures.value at c.in_ok-form.ensures.settled in
-    let finds = c.in_ok-sources.ensures.heard.ends in
-    found_names c.args.path.now (folder c.args.path.now) (filter is_source finds.names) (sources_of c.in_ok-sources.sources) c.in_ok-form.form finds.parts settled

@@ -1,16 +1,16 @@
 use Rattle.std.proofs.Common.{◌≡◌, refl, ◌∙◌, ◌+◌, ◌++◌, ap, sym, subst, arith, string_bytes, map, List, [], ◌∷◌}
 use Rattle.std.proofs.lemmas.List.{map-append}
 use Rattle.std.proofs.lemmas.Result.{err_from_is_err_and}
-use Rattle.ui_build.specs.Package as plans
+use Rattle.ui_sources.specs.Sources.{Source, source_of}
 use Rattle.ui_build.specs.Package.{is_source}
-use Rattle.ui_build.specs.Sources.{source, sources_of}
+use Rattle.ui_build.specs.Sources.{sources_of}
 use Rattle.ui_build.specs.Stops.{state}
 use Rattle.ui_build.proofs.Reading.{Continues, continues_first, continues_past, continues_next, continues_stop, continues_none, continues_last, nothing_left}
 use Rattle.std.specs.Prelude.{filter, Vec}
 use Rattle.std.specs.declared.alloc.Global.{Global}
 use Rattle.std.proofs.lemmas.List.{take_all}
 use Rattle.ui_build.specs.Heard.{HasRead, ReadsSources}
-use Rattle.ui_build.specs.declared.sources.Source.{Source}
+use Rattle.ui_sources.specs.declared.source.Source.{Source as InMemory}
 use Rattle.ui_build.proofs.Hearing.{ReadSoFar, so_far_first, so_far_past, so_far_next, so_far_stop, so_far_none, so_far_last}
 use Rattle.ui_build.proofs.sources.read_sources.Goals as goal
 
@@ -28,15 +28,15 @@ pub loop-name-preserved : goal.loop-name-preserved
 loop-name-preserved g c =
     let here = c.as_str.ensures.value ∙ ap string_bytes c.name-item.is in
     let there = c.as_str-in-loop-name.ensures.value ∙ ap string_bytes c.name-item.is in
-    let P : List plans.Source → Type 0 = λ ss. Continues c.args.folder.now c.args.names.now (state (g.S.Store.files c.args.store.now) (g.S.Store.asked c.args.store.now)) (c.loop-name.name-index + 1) ss (state (g.S.Store.files c.read_source.new.store) (g.S.Store.asked c.read_source.new.store)) in
-    let Q : List plans.Source → Type 0 = λ ss. ReadSoFar c.args.folder.now c.args.names.now (c.loop-name.name-index + 1) ss (g.S.Store.heard c.args.store.now) (g.S.Store.heard c.read_source.new.store) in
+    let P : List Source → Type 0 = λ ss. Continues c.args.folder.now c.args.names.now (state (g.S.Store.files c.args.store.now) (g.S.Store.asked c.args.store.now)) (c.loop-name.name-index + 1) ss (state (g.S.Store.files c.read_source.new.store) (g.S.Store.asked c.read_source.new.store)) in
+    let Q : List Source → Type 0 = λ ss. ReadSoFar c.args.folder.now c.args.names.now (c.loop-name.name-index + 1) ss (g.S.Store.heard c.args.store.now) (g.S.Store.heard c.read_source.new.store) in
     record {
       files = c.in_ok-source.ensures.files ∙ c.loop-name.invariant.files;
-      heard = subst Q (sym (ap (map source) c.in_ok-push.ensures.items ∙ map-append source c.loop-name.sources.items (c.in_ok-source.source ∷ [])))
-          (so_far_next source c.args.folder.now c.args.names.now c.loop-name.name-index c.name-item.result (sources_of c.loop-name.sources) c.in_ok-source.source _ _ _
+      heard = subst Q (sym (ap (map source_of) c.in_ok-push.ensures.items ∙ map-append source_of c.loop-name.sources.items (c.in_ok-source.source ∷ [])))
+          (so_far_next source_of c.args.folder.now c.args.names.now c.loop-name.name-index c.name-item.result (sources_of c.loop-name.sources) c.in_ok-source.source _ _ _
           (omega arith) (sym (ap is_source here) ∙ sym c.if-not-is_source.ensures) (rw there at c.in_ok-source.ensures.name) c.loop-name.invariant.heard c.in_ok-source.ensures.heard);
       count = omega (arith, c.in_ok-source.ensures.cause.later);
-      rest = subst P (sym (ap (map source) c.in_ok-push.ensures.items ∙ map-append source c.loop-name.sources.items (c.in_ok-source.source ∷ [])))
+      rest = subst P (sym (ap (map source_of) c.in_ok-push.ensures.items ∙ map-append source_of c.loop-name.sources.items (c.in_ok-source.source ∷ [])))
           (continues_next c.args.folder.now c.args.names.now (state (g.S.Store.files c.args.store.now) (g.S.Store.asked c.args.store.now)) (g.S.Store.files c.loop-name.store) (g.S.Store.files c.read_source.new.store) (g.S.Store.asked c.loop-name.store) (g.S.Store.asked c.read_source.new.store) c.loop-name.name-index c.name-item.result (sources_of c.loop-name.sources) c.in_ok-source.source
           (omega arith) (sym (ap is_source here) ∙ sym c.if-not-is_source.ensures) c.in_ok-source.ensures.files c.loop-name.invariant.rest (rw there at c.in_ok-source.ensures.does));
     }
@@ -55,9 +55,9 @@ returns-in_err-push-clause-does g c =
     let p = err_from_is_err_and c.from_residual-in_err-push.result c.from_residual-in_err-push.ensures.1 in
     let here = c.as_str.ensures.value ∙ ap string_bytes c.name-item.is in
     let there = c.as_str-in-loop-name.ensures.value ∙ ap string_bytes c.name-item.is in
-    let P : List plans.Source → Type 0 = λ ss. Continues c.args.folder.now c.args.names.now (state (g.S.Store.files c.args.store.now) (g.S.Store.asked c.args.store.now)) (c.loop-name.name-index + 1) ss (state (g.S.Store.files c.read_source.new.store) (g.S.Store.asked c.read_source.new.store)) in
+    let P : List Source → Type 0 = λ ss. Continues c.args.folder.now c.args.names.now (state (g.S.Store.files c.args.store.now) (g.S.Store.asked c.args.store.now)) (c.loop-name.name-index + 1) ss (state (g.S.Store.files c.read_source.new.store) (g.S.Store.asked c.read_source.new.store)) in
     rw (p.1, p.2)
-    (continues_none c.args.folder.now c.args.names.now (state (g.S.Store.files c.args.store.now) (g.S.Store.asked c.args.store.now)) (g.S.Store.files c.read_source.new.store) (g.S.Store.asked c.read_source.new.store) (c.loop-name.name-index + 1) (sources_of c.loop-name.sources ++ source c.in_ok-source.source ∷ [])
+    (continues_none c.args.folder.now c.args.names.now (state (g.S.Store.files c.args.store.now) (g.S.Store.asked c.args.store.now)) (g.S.Store.files c.read_source.new.store) (g.S.Store.asked c.read_source.new.store) (c.loop-name.name-index + 1) (sources_of c.loop-name.sources ++ source_of c.in_ok-source.source ∷ [])
     (continues_next c.args.folder.now c.args.names.now (state (g.S.Store.files c.args.store.now) (g.S.Store.asked c.args.store.now)) (g.S.Store.files c.loop-name.store) (g.S.Store.files c.read_source.new.store) (g.S.Store.asked c.loop-name.store) (g.S.Store.asked c.read_source.new.store) c.loop-name.name-index c.name-item.result (sources_of c.loop-name.sources) c.in_ok-source.source
     (omega arith) (sym (ap is_source here) ∙ sym c.if-not-is_source.ensures) c.in_ok-source.ensures.files c.loop-name.invariant.rest (rw there at c.in_ok-source.ensures.does)))
 
@@ -68,7 +68,7 @@ returns-clause-does g c =
 pub returns-in_err-source-clause-heard : goal.returns-in_err-source-clause-heard
 returns-in_err-source-clause-heard g c =
     let p = err_from_is_err_and c.from_residual.result c.from_residual.ensures.1 in
-    rw (p.1, p.2) (so_far_stop (λ (s : Source). HasRead (source s)) (λ (v : Vec Source Global). ReadsSources c.args.folder.now (filter is_source (map string_bytes c.args.names.now)) (sources_of v)) c.args.folder.now c.args.names.now c.loop-name.name-index (sources_of c.loop-name.sources) c.in_err-source.field-0.0 _ _ _ c.loop-name.invariant.heard c.in_err-source.ensures.heard)
+    rw (p.1, p.2) (so_far_stop (λ (s : InMemory). HasRead (source_of s)) (λ (v : Vec InMemory Global). ReadsSources c.args.folder.now (filter is_source (map string_bytes c.args.names.now)) (sources_of v)) c.args.folder.now c.args.names.now c.loop-name.name-index (sources_of c.loop-name.sources) c.in_err-source.field-0.0 _ _ _ c.loop-name.invariant.heard c.in_err-source.ensures.heard)
 
 pub returns-in_err-push-clause-heard : goal.returns-in_err-push-clause-heard
 returns-in_err-push-clause-heard g c =
@@ -76,8 +76,8 @@ returns-in_err-push-clause-heard g c =
     let here = c.as_str.ensures.value ∙ ap string_bytes c.name-item.is in
     let there = c.as_str-in-loop-name.ensures.value ∙ ap string_bytes c.name-item.is in
     rw (p.1, p.2)
-    (so_far_none (λ (v : Vec Source Global). ReadsSources c.args.folder.now (filter is_source (map string_bytes c.args.names.now)) (sources_of v)) c.args.folder.now c.args.names.now (c.loop-name.name-index + 1) (sources_of c.loop-name.sources ++ source c.in_ok-source.source ∷ []) _ _
-    (so_far_next source c.args.folder.now c.args.names.now c.loop-name.name-index c.name-item.result (sources_of c.loop-name.sources) c.in_ok-source.source (g.S.Store.heard c.args.store.now) _ _
+    (so_far_none (λ (v : Vec InMemory Global). ReadsSources c.args.folder.now (filter is_source (map string_bytes c.args.names.now)) (sources_of v)) c.args.folder.now c.args.names.now (c.loop-name.name-index + 1) (sources_of c.loop-name.sources ++ source_of c.in_ok-source.source ∷ []) _ _
+    (so_far_next source_of c.args.folder.now c.args.names.now c.loop-name.name-index c.name-item.result (sources_of c.loop-name.sources) c.in_ok-source.source (g.S.Store.heard c.args.store.now) _ _
     (omega arith) (sym (ap is_source here) ∙ sym c.if-not-is_source.ensures) (rw there at c.in_ok-source.ensures.name) c.loop-name.invariant.heard c.in_ok-source.ensures.heard))
 
 pub returns-clause-heard : goal.returns-clause-heard
@@ -86,10 +86,10 @@ returns-clause-heard g c =
 
 pub loop-name-init : goal.loop-name-init
 loop-name-init g c =
-    let empty : [] ≡ sources_of c.new-sources.result = sym (ap (map source) c.new-sources.ensures.items) in
+    let empty : [] ≡ sources_of c.new-sources.result = sym (ap (map source_of) c.new-sources.ensures.items) in
     let now = state (g.S.Store.files c.args.store.now) (g.S.Store.asked c.args.store.now) in
-    let P : List plans.Source → Type 0 = λ ss. Continues c.args.folder.now c.args.names.now now 0 ss now in
-    let Q : List plans.Source → Type 0 = λ ss. ReadSoFar c.args.folder.now c.args.names.now 0 ss (g.S.Store.heard c.args.store.now) (g.S.Store.heard c.args.store.now) in
+    let P : List Source → Type 0 = λ ss. Continues c.args.folder.now c.args.names.now now 0 ss now in
+    let Q : List Source → Type 0 = λ ss. ReadSoFar c.args.folder.now c.args.names.now 0 ss (g.S.Store.heard c.args.store.now) (g.S.Store.heard c.args.store.now) in
     record {
       files = refl;
       heard = subst Q empty (so_far_first c.args.folder.now c.args.names.now (g.S.Store.heard c.args.store.now));

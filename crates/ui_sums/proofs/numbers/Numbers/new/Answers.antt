@@ -1,7 +1,0 @@
-use Rattle.std.proofs.Common.{ap, ◌∙◌}
-use Rattle.ui_sums.specs.Numbers.{numbers_of}
-use Rattle.ui_sums.proofs.NumberLemmas.{numbers_of-nothing}
-use Rattle.ui_sums.proofs.numbers.Numbers.new.Goals as goal
-
-pub returns : goal.returns
-returns c = ap numbers_of c.new.ensures.empty ∙ numbers_of-nothing
