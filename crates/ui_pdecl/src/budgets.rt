@@ -13,7 +13,7 @@ ghost use Rattle.ui_stmts.specs.Decls as spec;
 use std::alloc::Global;
 use ui_base::Spot;
 use ui_parse::{Cursor, ParseError};
-use ui_pexpr::type_of_budget;
+use ui_pread::type_of_budget;
 use ui_psimple::{Deep, constant_decl, variable_decl};
 use ui_pstmt::block;
 use ui_ptype::TypeSub;

@@ -17,7 +17,7 @@ use crate::type_params::type_params;
 use std::alloc::Global;
 use ui_base::Spot;
 use ui_parse::{Cursor, ParseError};
-use ui_pexpr::{params, results};
+use ui_pread::{params, results};
 use ui_psimple::Deep;
 use ui_ptype::{TypeSub, deeper};
 use ui_scan::TokenKind;

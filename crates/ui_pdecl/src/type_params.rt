@@ -12,7 +12,7 @@ use crate::lengths::is_length;
 use std::alloc::Global;
 use ui_base::NoMemory;
 use ui_parse::{Cursor, Ends, ParseError, more_parts, parts};
-use ui_pexpr::{plain_type, tilde, union_from};
+use ui_pread::{plain_type, tilde, union_from};
 use ui_ptype::TypeSub;
 use ui_scan::TokenKind;
 use ui_tree::{Boxed, Group, Items, Placed, TypeExpr};

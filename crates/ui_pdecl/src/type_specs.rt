@@ -17,7 +17,7 @@ use crate::type_params::type_params_apart;
 use std::alloc::Global;
 use ui_base::{NoMemory, Spot};
 use ui_parse::{Cursor, ParseError};
-use ui_pexpr::bracket_type;
+use ui_pread::bracket_type;
 use ui_psimple::{Deep, SpecReader};
 use ui_ptype::TypeSub;
 use ui_scan::TokenKind;

@@ -1,13 +1,3 @@
-mod CodeWords
-mod Budgets
 mod Joins
-mod Loops
-mod Expressions
-mod Whole
-mod Operands
-mod LiteralTurns
-mod Conversions
-mod Prefixes
-mod Alone
 mod Answered
 mod Trees

@@ -1,5 +1,3 @@
-pub mod Seen
-pub mod Turns
 pub mod Faults
 pub mod Answers
 pub mod Parsed

@@ -10,10 +10,10 @@ ghost use Rattle.ui_syntax.specs.Read.{expr, type, sig as sig_of};
 ghost use Rattle.ui_tree.specs.View.{view, type_view};
 
 use crate::fault::{FURTHER_LEVELS, ParseFault, fault_at};
-use crate::parts::{expr_of_budget, sig, type_of_budget};
 use std::alloc::{AllocError, Global};
 use ui_base::NoMemory;
 use ui_parse::{Cursor, ParseError};
+use ui_pread::{expr_of_budget, sig, type_of_budget};
 use ui_scan::Token;
 use ui_tree::{ExprTree, TypeExpr};
 

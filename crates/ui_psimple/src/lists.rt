@@ -9,7 +9,7 @@ ghost use Rattle.ui_stmts.specs.Common as spec;
 use std::alloc::Global;
 use ui_base::NoMemory;
 use ui_parse::{Cursor, ParseError, chain};
-use ui_pexpr::expr_of_budget;
+use ui_pread::expr_of_budget;
 use ui_ptype::{Sub, Subs, name_list};
 use ui_scan::TokenKind;
 use ui_tree::{Items, Placed};

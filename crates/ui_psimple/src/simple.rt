@@ -21,7 +21,7 @@ use std::alloc::Global;
 use ui_base::{BinOp, NoMemory, Spot};
 use ui_grammar::assignment_of;
 use ui_parse::{Cursor, ParseError};
-use ui_pexpr::expr_of_budget;
+use ui_pread::expr_of_budget;
 use ui_ptype::{Sub, Subs};
 use ui_scan::TokenKind;
 use ui_tree::{ExprTree, Items, Placed, StmtTree};

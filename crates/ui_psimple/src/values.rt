@@ -16,7 +16,7 @@ use crate::lists::{exprs, names};
 use std::alloc::Global;
 use ui_base::Spot;
 use ui_parse::{Cursor, ParseError};
-use ui_pexpr::{maybe_type, type_of_budget};
+use ui_pread::{maybe_type, type_of_budget};
 use ui_ptype::{Subs, TypeSub};
 use ui_scan::TokenKind;
 use ui_syntax::TypeSite;

@@ -18,7 +18,7 @@ use crate::init::Init;
 use std::alloc::Global;
 use ui_base::{NoMemory, Spot};
 use ui_parse::{Cursor, ParseError};
-use ui_pexpr::expr_of_budget;
+use ui_pread::expr_of_budget;
 use ui_psimple::{Head, StmtSub, header_front, stmt_over};
 use ui_ptype::Sub;
 use ui_scan::TokenKind;

@@ -17,7 +17,7 @@ use crate::grammar::{Begun, Statements};
 use std::alloc::Global;
 use ui_base::{NoMemory, Spot};
 use ui_parse::{Cursor, ParseError};
-use ui_pexpr::expr_of_budget;
+use ui_pread::expr_of_budget;
 use ui_psimple::{
     Deep, Head, StmtSub, alone, empty_stmt, header_front, maybe_simple, or_none, stmt_over,
 };

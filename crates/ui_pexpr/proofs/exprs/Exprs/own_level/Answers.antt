@@ -1,7 +1,0 @@
-use Rattle.std.proofs.Common.{◌-◌}
-use Rattle.ui_syntax.specs.Read.{readers}
-use Rattle.ui_pexpr.proofs.Whole.{level_then}
-use Rattle.ui_pexpr.proofs.exprs.Exprs.own_level.Goals as goal
-
-pub returns : goal.returns
-returns g c = level_then c.args.self.now.types.budget (readers (c.args.self.now.types.budget - 1)) c.requires.positive c.args.site c.in_ok-left.left c.args.words.now c.unary_expr.new.words c.operations.result c.operations.new.words c.args.least c.in_ok-left.ensures c.operations.ensures

@@ -1,0 +1,10 @@
+mod CodeWords
+mod Budgets
+mod Loops
+mod Expressions
+mod Whole
+mod Operands
+mod LiteralTurns
+mod Conversions
+mod Prefixes
+mod Alone

@@ -1,0 +1,40 @@
+use Rattle.std.proofs.Common.{suc, ◌-◌, refl}
+use Rattle.std.proofs.lemmas.Result.{err_from_is_err_and}
+use Rattle.ui_syntax.specs.Exprs.{suffixes}
+use Rattle.ui_pread.specs.Turns.{goes_on, suffix_turn}
+use Rattle.ui_syntax.specs.Read.{readers}
+use Rattle.ui_ptype.specs.Seen.{see}
+use Rattle.ui_pread.proofs.Loops.{at_end, at_fault, at_done, at_spent, at_more}
+use Rattle.ui_pread.proofs.Expressions.{suffixes_end, suffixes_turn}
+use Rattle.ui_pread.proofs.exprs.Exprs.suffixes.Goals as goal
+
+pub returns : goal.returns
+returns g c =
+    let room = c.args.self.now.types.budget - 1 in
+    at_end see (goes_on room) (suffix_turn room (readers room) c.args.site) (suffixes room (readers room) c.args.site) (suffixes_end room (readers room) c.args.site) (suffixes_turn room (readers room) c.args.site)
+    _ c.loop-site.turns c.loop-site.of c.loop-site.words c.has_room.result c.loop-site.invariant c.has_room.ensures c.loop-site-test.false
+
+pub returns-in-Done : goal.returns-in-Done
+returns-in-Done g c =
+    let room = c.args.self.now.types.budget - 1 in
+    at_done see (goes_on room) (suffix_turn room (readers room) c.args.site) (suffixes room (readers room) c.args.site) (suffixes_end room (readers room) c.args.site) (suffixes_turn room (readers room) c.args.site)
+    _ c.loop-site.turns c.loop-site.of c.loop-site.words c.has_room.result c.loop-site.invariant c.has_room.ensures c.in-Done.last c.one_suffix.new.words c.in_ok-last.field-0 c.loop-site-test.true c.in_ok-last.ensures c.in-Done.is
+
+pub returns-then-turns-eq0 : goal.returns-then-turns-eq0
+returns-then-turns-eq0 g c =
+    let room = c.args.self.now.types.budget - 1 in
+    at_spent see (goes_on room) (suffix_turn room (readers room) c.args.site) (suffixes room (readers room) c.args.site) (suffixes_end room (readers room) c.args.site) (suffixes_turn room (readers room) c.args.site)
+    _ c.loop-site.turns c.loop-site.of c.loop-site.words c.has_room.result c.loop-site.invariant c.has_room.ensures c.in-More.next c.one_suffix.new.words c.in_ok-last.field-0 c.loop-site-test.true c.in_ok-last.ensures c.in-More.is c.if-turns-eq0.true
+
+pub loop-site-preserved : goal.loop-site-preserved
+loop-site-preserved g c =
+    let room = c.args.self.now.types.budget - 1 in
+    at_more see (goes_on room) (suffix_turn room (readers room) c.args.site) (suffixes room (readers room) c.args.site) (suffixes_end room (readers room) c.args.site) (suffixes_turn room (readers room) c.args.site)
+    _ c.loop-site.turns c.loop-site.of c.loop-site.words c.has_room.result c.loop-site.invariant c.has_room.ensures c.in-More.next c.one_suffix.new.words c.in_ok-last.field-0 c.loop-site-test.true c.in_ok-last.ensures c.in-More.is c.if-turns-eq0.false
+
+pub returns-in_err-last : goal.returns-in_err-last
+returns-in_err-last g c =
+    let room = c.args.self.now.types.budget - 1 in
+    let p = err_from_is_err_and c.from_residual.result c.from_residual.ensures.1 in
+    rw (p.1, p.2) (at_fault see (goes_on room) (suffix_turn room (readers room) c.args.site) (suffixes room (readers room) c.args.site) (suffixes_end room (readers room) c.args.site) (suffixes_turn room (readers room) c.args.site)
+    _ c.loop-site.turns c.loop-site.of c.loop-site.words c.has_room.result c.loop-site.invariant c.has_room.ensures c.in_err-last.field-0.0 c.one_suffix.new.words c.loop-site-test.true c.in_err-last.ensures)
