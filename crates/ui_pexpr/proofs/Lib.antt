@@ -1,3 +1,7 @@
+pub mod BackWords
+mod FrontForms
+mod Readings
 mod Joins
 mod Answered
 mod Trees
+mod Stays

@@ -1,5 +1,5 @@
 -- No words have two trees, whatever the limit.
-use Rattle.std.proofs.Common.{◌≡◌, ◌≤◌, ℕ, suc, Bool, true, false, List, arith}
+use Rattle.std.proofs.Common.{ℕ, suc, true, false, List, arith}
 use Rattle.ui_tree.specs.Tree.{TypeTree, Tree}
 use Rattle.ui_grammar.specs.Word.{Word}
 use Rattle.ui_grammar.specs.Fits.{Place}

@@ -1,26 +1,27 @@
 -- What the parsers answer, by what their readers read.
-use Rattle.std.specs.Prelude.{◌≡◌, ℕ, ◌-◌, List, length, drop, Result, Ok, Err}
+use Rattle.std.specs.Prelude.{◌≡◌, ℕ, ◌+◌, ◌-◌, Bool, true, List, length, drop, nat_lt, Result, Ok, Err}
 use Rattle.ui_scan.specs.declared.kind.Token.{Token}
-use Rattle.ui_grammar.specs.Word.{Word}
+use Rattle.ui_grammar.specs.Word.{words}
 use Rattle.ui_parse.specs.Reader.{Outcome}
 use Rattle.ui_syntax.specs.Cover.{Read}
 use Rattle.ui_pexpr.specs.declared.fault.ParseFault.{ParseFault}
 use Rattle.ui_pexpr.specs.declared.fault.ParseFault.TheVariants.{NoMemory}
-use Rattle.ui_pexpr.specs.Faults.{Tells}
+use Rattle.ui_pexpr.specs.Faults.{first_offset, form_behind, told}
+use Rattle.ui_pexpr.specs.Forms.{form_at}
 
--- how many words are left
-abbrev pub left_of : {A : Type 0} → Outcome A → ℕ
-left_of (Ok p) = length p.1
-left_of (Err ws) = length ws
+-- a reading succeeds, or leaves fewer words than these
+abbrev pub goes_farther : {A : Type 0} → Outcome A → ℕ → Bool
+goes_farther (Ok p) left = true
+goes_farther (Err ws) left = nat_lt (length ws) left
 
--- what is told where so many words are left, and so many by a reading with more levels
-abbrev pub TellsLeft : List ℕ → List Token → ℕ → ℕ → ParseFault → Type 0
-TellsLeft bytes ts left further f = Tells bytes (drop (length ts - left) ts) further left f
+-- what is told behind so many words from a place on
+abbrev pub told_behind : List ℕ → List Token → ℕ → ℕ → Bool → ParseFault
+told_behind bytes ts from count deep = told deep (form_behind form_at (drop from (words bytes ts)) count) (first_offset bytes (drop (from + count) ts))
 
 -- The tree that was read, with the number of the token behind it, or the fault by the second reading, but for want of
 -- memory.
-abbrev pub Answers : {X T : Type 0} → (X → T) → List ℕ → List Token → Outcome (Read T) → ℕ → Result (X × ℕ) ParseFault → Type 0
-Answers see bytes ts (Ok p) further (Ok x) = (see x.0 ≡ p.0.tree) × (x.1 ≡ length ts - length p.1)
-Answers see bytes ts (Err ws) further (Err f) = (f ≡ NoMemory → ⊥) → TellsLeft bytes ts (length ws) further f
-Answers see bytes ts (Ok p) further (Err f) = f ≡ NoMemory
-Answers see bytes ts (Err ws) further (Ok x) = ⊥
+abbrev pub Answers : {X T : Type 0} → (X → T) → List ℕ → List Token → ℕ → Outcome (Read T) → Outcome (Read T) → Result (X × ℕ) ParseFault → Type 0
+Answers see bytes ts from (Ok p) second (Ok x) = (see x.0 ≡ p.0.tree) × (x.1 ≡ length ts - length p.1)
+Answers see bytes ts from (Err ws) second (Err f) = (f ≡ NoMemory → ⊥) → f ≡ told_behind bytes ts from (length ts - length ws - from) (goes_farther second (length ws))
+Answers see bytes ts from (Ok p) second (Err f) = f ≡ NoMemory
+Answers see bytes ts from (Err ws) second (Ok x) = ⊥

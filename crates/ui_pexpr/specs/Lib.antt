@@ -1,4 +1,9 @@
+pub mod Back
 pub mod Faults
+pub mod BackLaws
+pub mod KindLaws
+pub mod Forms
+pub mod FormLaws
 pub mod Answers
 pub mod Parsed
 pub mod Laws

@@ -3,13 +3,15 @@
 ghost use Rattle.std.specs.Prelude.{◌≡◌, ◌+◌, ◌≤◌, ◌<◌, ◌-◌, IfOk, length, drop};
 ghost use Rattle.ui_grammar.specs.Parse.{HasExpr, HasType, HasSig};
 ghost use Rattle.ui_grammar.specs.Word.{words};
-ghost use Rattle.ui_pexpr.specs.Answers.{Answers, TellsLeft, left_of};
+ghost use Rattle.ui_pexpr.specs.Answers.{Answers, goes_farther, told_behind};
+ghost use Rattle.ui_pexpr.specs.declared.fault.ParseFault.TheVariants.{NoMemory as no_memory};
 ghost use Rattle.ui_pexpr.specs.Parsed.{Parsed, place};
 ghost use Rattle.ui_scan.specs.Tokens.{Tokens};
 ghost use Rattle.ui_syntax.specs.Read.{expr, type, sig as sig_of};
 ghost use Rattle.ui_tree.specs.View.{view, type_view};
 
-use crate::fault::{FURTHER_LEVELS, ParseFault, fault_at};
+use crate::fault::ParseFault;
+use crate::front::Front;
 use std::alloc::{AllocError, Global};
 use ui_base::NoMemory;
 use ui_parse::{Cursor, ParseError};
@@ -19,6 +21,9 @@ use ui_tree::{ExprTree, TypeExpr};
 
 /// The greatest depth of a tree.
 const DEEPEST: u32 = 200;
+
+/// How many levels more a second reading has, which tells what is too deep.
+const FURTHER_LEVELS: u32 = 4;
 
 // A file's tokens, and where reading begins.
 #[derive(Drop)]
@@ -44,30 +49,41 @@ impl<'a> Reading<'a> {
         self.tokens.len().saturating_sub(left)
     }
 
-    fn rest(&self, left: usize) -> &'a [Token]
-        ensures { result.now ≡ drop (length self.now.tokens.now - left) self.now.tokens.now }
-    {
-        let end = self.end(left);
-        &self.tokens[end..]
-    }
-
-    // The fault where so many words are left, and so many by a reading with more levels.
-    fn fault(&self, left: usize, further: usize) -> ParseFault
-        ensures { TellsLeft self.now.bytes.now self.now.tokens.now left further result }
-    {
-        fault_at(self.bytes, self.rest(left), further, left)
-    }
-
-    // How many words a reading with more levels leaves.
-    fn further_expr(&self, alloc: Global, header: bool, budget: u32) -> Result<usize, NoMemory>
+    // The fault where so many words are left, and where it is known whether a deeper form goes on there.
+    fn fault(&self, alloc: Global, left: usize, deep: bool) -> ParseFault
         requires scanned { Tokens self.now.bytes.now self.now.tokens.now }
         requires inside { self.now.from ≤ length self.now.tokens.now }
-        ensures { IfOk result (λ n. n ≡ left_of (expr budget header (drop self.now.from (words self.now.bytes.now self.now.tokens.now)))) }
+        ensures { (result ≡ no_memory → ⊥) → result ≡ told_behind self.now.bytes.now self.now.tokens.now self.now.from (length self.now.tokens.now - left - self.now.from) deep }
+    {
+        let front = Front {
+            bytes: self.bytes,
+            tokens: self.tokens,
+            from: self.from,
+            count: self.end(left).saturating_sub(self.from),
+        };
+        match front.fault(alloc, deep) {
+            Ok(fault) => fault,
+            Err(_) => ParseFault::NoMemory,
+        }
+    }
+
+    // Whether a reading within this budget goes farther than to so many words that are left.
+    #[tactic(auto, using(crate::proofs::Readings::farther_ok, crate::proofs::Readings::farther_fault))]
+    fn expr_goes_farther(
+        &self,
+        alloc: Global,
+        header: bool,
+        budget: u32,
+        left: usize,
+    ) -> Result<bool, NoMemory>
+        requires scanned { Tokens self.now.bytes.now self.now.tokens.now }
+        requires inside { self.now.from ≤ length self.now.tokens.now }
+        ensures { IfOk result (λ b. b ≡ goes_farther (expr budget header (drop self.now.from (words self.now.bytes.now self.now.tokens.now))) left) }
     {
         let mut words = self.start();
         match expr_of_budget(alloc, &mut words, budget, header) {
-            Ok(_) => Ok(words.left()),
-            Err(ParseError::Fault) => Ok(words.left()),
+            Ok(_) => Ok(true),
+            Err(ParseError::Fault) => Ok(words.left() < left),
             Err(ParseError::NoMemory) => Err(AllocError),
         }
     }
@@ -81,32 +97,39 @@ impl<'a> Reading<'a> {
         requires scanned { Tokens self.now.bytes.now self.now.tokens.now }
         requires inside { self.now.from ≤ length self.now.tokens.now }
         requires room { budget ≤ 200 }
-        ensures { Answers view self.now.bytes.now self.now.tokens.now (expr budget header (drop self.now.from (words self.now.bytes.now self.now.tokens.now))) (left_of (expr (budget + 4) header (drop self.now.from (words self.now.bytes.now self.now.tokens.now)))) result }
+        ensures { Answers view self.now.bytes.now self.now.tokens.now self.now.from (expr budget header (drop self.now.from (words self.now.bytes.now self.now.tokens.now))) (expr (budget + 4) header (drop self.now.from (words self.now.bytes.now self.now.tokens.now))) result }
     {
         let mut words = self.start();
         match expr_of_budget(alloc, &mut words, budget, header) {
             Ok(found) => Ok((found.tree.into_inner(), self.end(words.left()))),
             Err(ParseError::NoMemory) => Err(ParseFault::NoMemory),
-            Err(ParseError::Fault) => match self.further_expr(
+            Err(ParseError::Fault) => match self.expr_goes_farther(
                 alloc,
                 header,
                 budget + FURTHER_LEVELS,
+                words.left(),
             ) {
-                Ok(further) => Err(self.fault(words.left(), further)),
+                Ok(deep) => Err(self.fault(alloc, words.left(), deep)),
                 Err(_) => Err(ParseFault::NoMemory),
             },
         }
     }
 
-    fn further_type_expr(&self, alloc: Global, budget: u32) -> Result<usize, NoMemory>
+    #[tactic(auto, using(crate::proofs::Readings::farther_ok, crate::proofs::Readings::farther_fault))]
+    fn type_expr_goes_farther(
+        &self,
+        alloc: Global,
+        budget: u32,
+        left: usize,
+    ) -> Result<bool, NoMemory>
         requires scanned { Tokens self.now.bytes.now self.now.tokens.now }
         requires inside { self.now.from ≤ length self.now.tokens.now }
-        ensures { IfOk result (λ n. n ≡ left_of (type budget (drop self.now.from (words self.now.bytes.now self.now.tokens.now)))) }
+        ensures { IfOk result (λ b. b ≡ goes_farther (type budget (drop self.now.from (words self.now.bytes.now self.now.tokens.now))) left) }
     {
         let mut words = self.start();
         match type_of_budget(alloc, &mut words, budget) {
-            Ok(_) => Ok(words.left()),
-            Err(ParseError::Fault) => Ok(words.left()),
+            Ok(_) => Ok(true),
+            Err(ParseError::Fault) => Ok(words.left() < left),
             Err(ParseError::NoMemory) => Err(AllocError),
         }
     }
@@ -115,28 +138,38 @@ impl<'a> Reading<'a> {
         requires scanned { Tokens self.now.bytes.now self.now.tokens.now }
         requires inside { self.now.from ≤ length self.now.tokens.now }
         requires room { budget ≤ 200 }
-        ensures { Answers type_view self.now.bytes.now self.now.tokens.now (type budget (drop self.now.from (words self.now.bytes.now self.now.tokens.now))) (left_of (type (budget + 4) (drop self.now.from (words self.now.bytes.now self.now.tokens.now)))) result }
+        ensures { Answers type_view self.now.bytes.now self.now.tokens.now self.now.from (type budget (drop self.now.from (words self.now.bytes.now self.now.tokens.now))) (type (budget + 4) (drop self.now.from (words self.now.bytes.now self.now.tokens.now))) result }
     {
         let mut words = self.start();
         match type_of_budget(alloc, &mut words, budget) {
             Ok(found) => Ok((found.tree.into_inner(), self.end(words.left()))),
             Err(ParseError::NoMemory) => Err(ParseFault::NoMemory),
-            Err(ParseError::Fault) => match self.further_type_expr(alloc, budget + FURTHER_LEVELS) {
-                Ok(further) => Err(self.fault(words.left(), further)),
+            Err(ParseError::Fault) => match self.type_expr_goes_farther(
+                alloc,
+                budget + FURTHER_LEVELS,
+                words.left(),
+            ) {
+                Ok(deep) => Err(self.fault(alloc, words.left(), deep)),
                 Err(_) => Err(ParseFault::NoMemory),
             },
         }
     }
 
-    fn further_sig_expr(&self, alloc: Global, budget: u32) -> Result<usize, NoMemory>
+    #[tactic(auto, using(crate::proofs::Readings::farther_ok, crate::proofs::Readings::farther_fault))]
+    fn sig_expr_goes_farther(
+        &self,
+        alloc: Global,
+        budget: u32,
+        left: usize,
+    ) -> Result<bool, NoMemory>
         requires scanned { Tokens self.now.bytes.now self.now.tokens.now }
         requires inside { self.now.from ≤ length self.now.tokens.now }
-        ensures { IfOk result (λ n. n ≡ left_of (sig_of budget (drop self.now.from (words self.now.bytes.now self.now.tokens.now)))) }
+        ensures { IfOk result (λ b. b ≡ goes_farther (sig_of budget (drop self.now.from (words self.now.bytes.now self.now.tokens.now))) left) }
     {
         let mut words = self.start();
         match sig(alloc, &mut words, budget) {
-            Ok(_) => Ok(words.left()),
-            Err(ParseError::Fault) => Ok(words.left()),
+            Ok(_) => Ok(true),
+            Err(ParseError::Fault) => Ok(words.left() < left),
             Err(ParseError::NoMemory) => Err(AllocError),
         }
     }
@@ -145,14 +178,18 @@ impl<'a> Reading<'a> {
         requires scanned { Tokens self.now.bytes.now self.now.tokens.now }
         requires inside { self.now.from ≤ length self.now.tokens.now }
         requires room { budget ≤ 200 }
-        ensures { Answers type_view self.now.bytes.now self.now.tokens.now (sig_of budget (drop self.now.from (words self.now.bytes.now self.now.tokens.now))) (left_of (sig_of (budget + 4) (drop self.now.from (words self.now.bytes.now self.now.tokens.now)))) result }
+        ensures { Answers type_view self.now.bytes.now self.now.tokens.now self.now.from (sig_of budget (drop self.now.from (words self.now.bytes.now self.now.tokens.now))) (sig_of (budget + 4) (drop self.now.from (words self.now.bytes.now self.now.tokens.now))) result }
     {
         let mut words = self.start();
         match sig(alloc, &mut words, budget) {
             Ok(found) => Ok((found.tree.into_inner(), self.end(words.left()))),
             Err(ParseError::NoMemory) => Err(ParseFault::NoMemory),
-            Err(ParseError::Fault) => match self.further_sig_expr(alloc, budget + FURTHER_LEVELS) {
-                Ok(further) => Err(self.fault(words.left(), further)),
+            Err(ParseError::Fault) => match self.sig_expr_goes_farther(
+                alloc,
+                budget + FURTHER_LEVELS,
+                words.left(),
+            ) {
+                Ok(deep) => Err(self.fault(alloc, words.left(), deep)),
                 Err(_) => Err(ParseFault::NoMemory),
             },
         }
@@ -165,8 +202,8 @@ impl<'a> Reading<'a> {
 ///
 /// # Errors
 ///
-/// Where that list is none, the fault stands at the word behind it: `TooDeep` where a longer list begins an expression
-/// that is at most four levels deeper, else `Outside` where the word begins a form without trees, else `Unexpected`.
+/// Where that list is none, the fault stands at the word behind it: `TooDeep` where a deeper expression, however deep,
+/// begins with that word too, else `Outside` where the word begins a form without trees, else `Unexpected`.
 /// `BadImportPath` and the forms of files are never answered.
 #[tactic(auto, using(crate::proofs::Answered::expr_parsed))]
 pub fn parse_expr(

@@ -2,6 +2,7 @@
 
 ghost use Rattle.std.specs.Prelude.{◌≡◌};
 ghost use Rattle.ui_pexpr.specs.Faults as spec;
+ghost use Rattle.ui_pexpr.specs.Forms as forms;
 
 use ui_scan::{Token, TokenKind};
 
@@ -20,7 +21,7 @@ pub enum Form {
     Ellipsis,
     /// An import of all names of a package; of files alone.
     DotImport,
-    /// A string behind a struct's field; of files alone.
+    /// A string behind a struct's field.
     Tag,
     /// An alias with type parameters; of files alone.
     GenericAlias,
@@ -40,12 +41,9 @@ pub enum ParseFault {
     NoMemory,
 }
 
-/// How many levels more a second reading has, which tells what is too deep.
-pub const FURTHER_LEVELS: u32 = 4;
-
-/// The form without trees that a token begins.
+/// The form without trees that a token begins wherever it is.
 pub fn form_of(kind: TokenKind) -> Option<Form>
-    ensures { result ≡ spec.form_of kind }
+    ensures { result ≡ forms.form_of kind }
 {
     match kind {
         TokenKind::Chan => Some(Form::Chan),
@@ -62,17 +60,15 @@ pub fn form_of(kind: TokenKind) -> Option<Form>
     }
 }
 
-fn first_form(tokens: &[Token]) -> Option<Form>
-    ensures { result ≡ spec.first_form tokens.now }
+/// This form, where it is there.
+pub fn form_if(holds: bool, form: Form) -> Option<Form>
+    ensures { result ≡ forms.form_if holds form }
 {
-    match tokens {
-        [] => None,
-        [first, ..] => form_of(first.kind),
-    }
+    if holds { Some(form) } else { None }
 }
 
-// Where the tokens begin, or the bytes end.
-fn first_offset(bytes: &[u8], tokens: &[Token]) -> usize
+/// Where the tokens begin, or the bytes end.
+pub fn first_offset(bytes: &[u8], tokens: &[Token]) -> usize
     ensures { result ≡ spec.first_offset bytes.now tokens.now }
 {
     match tokens {
@@ -81,16 +77,14 @@ fn first_offset(bytes: &[u8], tokens: &[Token]) -> usize
     }
 }
 
-/// The fault at the first of these tokens, by how far was read: too deep, where a reading with more levels went farther
-/// than the first, and else of a form outside, or unexpected.
-pub fn fault_at(bytes: &[u8], tokens: &[Token], read: usize, further: usize) -> ParseFault
-    ensures { spec.Tells bytes.now tokens.now read further result }
+/// The fault at a place, where it is known whether a deeper form goes on there, and which form without trees begins there.
+pub fn told(deep: bool, form: Option<Form>, at: usize) -> ParseFault
+    ensures { result ≡ spec.told deep form at }
 {
-    let at = first_offset(bytes, tokens);
-    if read < further {
+    if deep {
         return ParseFault::TooDeep { at };
     }
-    match first_form(tokens) {
+    match form {
         Some(form) => ParseFault::Outside { at, form },
         None => ParseFault::Unexpected { at },
     }

@@ -2,12 +2,18 @@
 #![tactic(auto)]
 
 mod api;
+mod back;
 mod fault;
+mod front;
 mod laws;
 
 pub use api::{parse_expr, parse_sig, parse_type};
-pub use fault::{FURTHER_LEVELS, Form, ParseFault, fault_at, form_of};
-pub use laws::{one_expr_tree, one_sig_tree, one_type_tree};
+pub use back::{before_last, ends_in, opening};
+pub use fault::{Form, ParseFault, first_offset, form_if, form_of, told};
+pub use front::Front;
+pub use laws::{
+    expr_faults_stay, one_expr_tree, one_sig_tree, one_type_tree, sig_faults_stay, type_faults_stay,
+};
 
 #[cfg(test)]
 mod tests;
