@@ -1,5 +1,5 @@
 -- The string of the first bad path, among the words of a file and its tokens.
-use Rattle.std.proofs.Common.{◌≡◌, ℕ, Bool, true, false, cond, List, [], ◌∷◌, ◌++◌, map, Option, Some, None, refl, sym, ap, ◌∙◌, append_assoc}
+use Rattle.std.proofs.Common.{◌≡◌, ℕ, Bool, true, false, cond, List, [], ◌∷◌, ◌++◌, Option, Some, None, refl, sym, ap, ◌∙◌, append_assoc}
 use Rattle.ui_base.specs.declared.value.Spot.{Spot}
 use Rattle.ui_base.specs.declared.value.Value.{Value}
 use Rattle.ui_base.specs.declared.value.Value.TheVariants as value
@@ -9,18 +9,17 @@ use Rattle.ui_scan.specs.declared.kind.TokenKind.TheVariants as kind
 use Rattle.ui_tree.specs.declared.part.Placed.{Placed}
 use Rattle.ui_tree.specs.declared.part.Specs.{Specs}
 use Rattle.ui_tree.specs.declared.part.Specs.TheVariants.{One, Grouped}
-use Rattle.ui_tree.specs.declared.part.LiteralKind.{LiteralKind}
 use Rattle.ui_tree.specs.declared.part.LiteralKind.TheVariants.{Text}
 use Rattle.ui_tree.specs.Stmt.{Imported, Import, File}
 use Rattle.ui_grammar.specs.Word.{Word, ident, lit, mark, word_of_kind, word_of, words, spot_at}
 use Rattle.ui_grammar.specs.Statement.{SpecsTail, SpecsList, SpellsSpecs}
-use Rattle.ui_grammar.specs.Declaration.{MaybeNamed, SpellsImported, SpellsImport, SpellsEach, SpellsFile}
+use Rattle.ui_grammar.specs.Declaration.{MaybeNamed, SpellsImported, SpellsImport, SpellsEach}
 use Rattle.ui_grammar.specs.FramesDecl.{frame_imported, frame_import}
 use Rattle.ui_grammar.specs.Parse.{HasFile}
-use Rattle.ui_parse.specs.Cursor.{kind_of_literal}
-use Rattle.ui_pdecl.specs.Forms.{kind_at, or_else}
+use Rattle.ui_pexpr.specs.Back.{kind_at}
+use Rattle.ui_pexpr.specs.Forms.{or_else}
 use Rattle.ui_pdecl.specs.FileResult.{is_bad, bad_spec, all_specs, bad_import}
-use Rattle.ui_pdecl.proofs.BackWords.{kind_of_token}
+use Rattle.ui_pexpr.specs.BackLaws.{kind_of_token}
 
 -- the words have the string of a bad path at a spot
 pub record HasString (own : List ℕ) (s : Spot) (ws : List Word) : Type 0 where

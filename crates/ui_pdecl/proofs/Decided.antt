@@ -1,5 +1,5 @@
 -- What the result of a file's tokens says by the grammar alone.
-use Rattle.std.proofs.Common.{◌≡◌, ◌⊎◌, inl, inr, ℕ, ◌-◌, Bool, true, false, List, [], ◌∷◌, ◌++◌, length, take, drop, Option, Some, None, Result, Ok, Err, refl, sym, ap, subst, ◌∙◌, append_assoc, arith}
+use Rattle.std.proofs.Common.{◌≡◌, ◌⊎◌, inl, inr, ℕ, ◌-◌, List, [], ◌∷◌, ◌++◌, length, drop, Option, Some, None, Ok, Err, refl, sym, ap, subst, ◌∙◌, append_assoc, arith}
 use Rattle.std.proofs.lemmas.List.{append-nil, length-map}
 use Rattle.ui_base.specs.declared.value.Spot.{Spot}
 use Rattle.ui_base.specs.declared.value.Value.TheVariants as value
@@ -9,34 +9,21 @@ use Rattle.ui_scan.specs.declared.kind.TokenKind.TheVariants.{End}
 use Rattle.ui_tree.specs.declared.part.LiteralKind.TheVariants.{Text}
 use Rattle.ui_tree.specs.Stmt.{File}
 use Rattle.ui_grammar.specs.Word.{Word, lit, mark, word_of, words}
-use Rattle.ui_grammar.specs.Frames.{framed}
-use Rattle.ui_grammar.specs.FramesDecl.{fill_file}
 use Rattle.ui_grammar.specs.Parse.{HasFile, IsFault}
 use Rattle.ui_parse.specs.Reader.{Outcome}
 use Rattle.ui_parse.specs.Longest.{fault}
 use Rattle.ui_stmts.specs.Decides.{whole_file, file_decides, one_file}
-use Rattle.ui_pexpr.specs.declared.fault.Form.{Form}
 use Rattle.ui_pexpr.specs.declared.fault.ParseFault.{ParseFault}
 use Rattle.ui_pexpr.specs.declared.fault.ParseFault.TheVariants.{BadImportPath}
-use Rattle.ui_pexpr.specs.Faults.{first_offset}
+use Rattle.ui_pexpr.specs.Faults.{StandsAt, IsKind}
+use Rattle.ui_pexpr.specs.KindLaws.{ReadsFault}
 use Rattle.ui_pdecl.specs.Forms.{form_at}
-use Rattle.ui_pdecl.specs.FileResult.{bad_import, string_at, with_paths, reads_farther, told, told_at, fault_behind, result_of, file_result}
-use Rattle.ui_pdecl.specs.FileLaws.{StandsBehind, IsNoFile, HasBadPath, Decided}
+use Rattle.ui_pdecl.specs.FileResult.{bad_import, string_at, with_paths, fault_behind, result_of, file_result}
+use Rattle.ui_pdecl.specs.FileLaws.{IsNoFile, HasBadPath, Decided}
 use Rattle.ui_pdecl.proofs.LastToken.{ends_last, behind_end}
+use Rattle.ui_pdecl.proofs.FaultKinds.{reads_file, ends_in, tells, stands_there, kind_is, is_told}
 use Rattle.ui_pdecl.proofs.StringSpots.{string_is}
 use Rattle.ui_pdecl.proofs.BadPaths.{in_file, token_of, string_kind, string_spot}
-
--- ---- where faults stand
-
-module _ (bytes : List ℕ) (ts : List Token) (k at : ℕ) (is : at ≡ first_offset bytes (drop k ts)) where
-  told_stands : (b : Bool) (o : Option Form) → StandsBehind bytes ts k (told b o at)
-  told_stands true o = is
-  told_stands false (Some form) = is
-  told_stands false None = is
-
-  stands : (ws rest : List Word) → StandsBehind bytes ts k (told_at ws k rest at)
-  stands ws [] = is
-  stands ws (w ∷ rest) = told_stands (reads_farther ws k) (form_at (take k ws) w)
 
 module _ (own bytes : List ℕ) (ts : List Token) (scanned : Tokens bytes ts) where
   abbrev ws : List Word
@@ -44,18 +31,10 @@ module _ (own bytes : List ℕ) (ts : List Token) (scanned : Tokens bytes ts) wh
 
   -- ---- what is read is all of the words
 
-  record EndsIn (front : List Word) : Type 0 where
-    others : List Word
-    spot : Spot
-    parts : front ≡ others ++ (mark End spot ∷ [])
-
-  ends_in : (f : File) (front : List Word) → HasFile 200 front f → EndsIn front
-  ends_in f front has = let w = framed (fill_file f front (mark End has.end ∷ []) has.spells) in record { others = w.front; spot = has.end; parts = w.parts }
-
   has_whole : (f : File) (rest : List Word) → whole_file 199 ws ≡ Ok (f, rest) → HasFile 200 ws f
   has_whole f rest e =
       let w = (file_decides 199).found_has ws f rest e in
-      let n = ends_in f w.front w.has in
+      let n = ends_in 200 f w.front w.has in
       let parts : ws ≡ n.others ++ (mark End n.spot ∷ rest) = w.parts ∙ ap (λ (v : List Word). v ++ rest) n.parts ∙ append_assoc n.others (mark End n.spot ∷ []) rest in
       let none : rest ≡ [] = behind_end bytes ts (ends_last bytes ts scanned) n.others rest n.spot parts in
       let same : ws ≡ w.front = w.parts ∙ ap (λ (v : List Word). w.front ++ v) none ∙ append-nil w.front in
@@ -118,15 +97,42 @@ module _ (own bytes : List ℕ) (ts : List Token) (scanned : Tokens bytes ts) wh
       let k : ℕ = length ts - length rest in
       let same : e ≡ fault_behind bytes ts k = cc in
       let long : length ws - length rest ≡ k = omega (arith, length-map ts (word_of bytes)) in
+      let t = tells bytes ts scanned k rest read long in
       inl (record {
         count = k;
         fault = subst (λ (n : ℕ). IsFault (HasFile 200) ws n) long (fault (HasFile 200) (whole_file 199) (λ f. f) (file_decides 199) ws rest read);
-        stands = subst (StandsBehind bytes ts k) (sym same) (stands bytes ts k (first_offset bytes (drop k ts)) refl ws (drop k ws));
+        stands = subst (StandsAt bytes (drop k ts)) (sym same) (stands_there bytes ts k t);
+        kind = subst (IsKind HasFile form_at ws k) (sym same) (kind_is bytes ts k t);
       })
 
   faulty : (e : ParseFault) → file_result own bytes ts ≡ Err e → IsNoFile bytes ts e ⊎ HasBadPath own bytes ts e
   unfolding file_result
   faulty e is = faulty_by (whole_file 199 ws) refl e is
 
+  -- ---- no other fault than the one that is told
+
+  refused_by : (e : ParseFault) (h : IsNoFile bytes ts e) (r : ReadsFault (whole_file 199) ws h.count) → file_result own bytes ts ≡ Err e
+  unfolding file_result
+  refused_by e h r =
+      let t = tells bytes ts scanned h.count r.rest r.read r.place in
+      let long : length ts - length r.rest ≡ h.count = omega (arith, length-map ts (word_of bytes), r.place) in
+      ap (result_of own bytes ts) r.read ∙ ap (λ (k : ℕ). Err (fault_behind bytes ts k)) long ∙ ap (λ (e : ParseFault). Err e) (sym (is_told bytes ts h.count t e h.stands h.kind))
+
+  bad_path : (e : ParseFault) → HasBadPath own bytes ts e → file_result own bytes ts ≡ Err e
+  unfolding file_result
+  bad_path e h =
+      let c = (file_decides 199).complete ws h.tree h.has in
+      let spot = string_spot bytes h.token h.spot (value.Str h.path) h.string in
+      let start = string_is bytes ts h.before h.behind h.token h.spot scanned h.parts (string_kind bytes h.token h.spot (value.Str h.path) h.string) (ap (λ (s : Spot). s.line) spot) (ap (λ (s : Spot). s.col) spot) in
+      ap (result_of own bytes ts) c.read
+      ∙ ap (λ (g : File). with_paths ts g (bad_import own g.imports)) c.is
+      ∙ ap (with_paths ts h.tree) h.first
+      ∙ ap (λ (n : ℕ). Err (BadImportPath n)) start
+      ∙ ap (λ (e : ParseFault). Err e) (sym h.told)
+
+  refused : (e : ParseFault) → IsNoFile bytes ts e ⊎ HasBadPath own bytes ts e → file_result own bytes ts ≡ Err e
+  refused e (inl h) = refused_by e h (reads_file 199 ws h.count h.fault)
+  refused e (inr h) = bad_path e h
+
   pub decided : Decided own bytes ts
-  decided = record { found = found; every = every; one = λ f g h k. one_file 199 ws f g h k; faulty = faulty }
+  decided = record { found = found; every = every; one = λ f g h k. one_file 199 ws f g h k; faulty = faulty; refused = refused }

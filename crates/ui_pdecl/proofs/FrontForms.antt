@@ -2,40 +2,26 @@
 use Rattle.std.proofs.Common.{◌≡◌, ℕ, Bool, true, false, ◌&&◌, List, length, take, drop, reverse, Option, sym, ap, ◌∙◌}
 use Rattle.ui_scan.specs.declared.kind.Token.{Token}
 use Rattle.ui_scan.specs.declared.kind.TokenKind.TheVariants as kind
-use Rattle.ui_grammar.specs.Word.{Word, words}
+use Rattle.ui_grammar.specs.Word.{Word}
 use Rattle.ui_parse.specs.Reader.{tail}
 use Rattle.ui_stmts.specs.Decls.{type_params_apart}
 use Rattle.ui_pexpr.specs.declared.fault.Form.{Form}
 use Rattle.ui_pexpr.specs.declared.fault.Form.TheVariants.{DotImport}
-use Rattle.ui_pdecl.specs.Forms.{last_is, opening, begins_spec, form_if, is_whole, field, in_struct, behind_field, opens_params, params_from, behind_params, back_of}
-use Rattle.ui_pdecl.proofs.BackWords.{front_back, back_length}
+use Rattle.ui_pexpr.specs.Back.{last_is, opening, back_of}
+use Rattle.ui_pexpr.specs.BackLaws.{front_back, back_length}
+use Rattle.ui_pexpr.specs.Faults.{front_of}
+use Rattle.ui_pexpr.specs.Forms.{is_whole, form_if}
+use Rattle.ui_pdecl.specs.Forms.{begins_spec, opens_params, params_from, behind_params}
 
-module _ (bytes : List ℕ) (ts front : List Token) (count : ℕ) (is : front ≡ take count ts) where
+module _ (bytes : List ℕ) (ts front : List Token) (from count : ℕ) (is : front ≡ take count (drop from ts)) where
   abbrev fw : List Word
-  fw = take count (words bytes ts)
+  fw = front_of bytes ts from count
 
   abbrev back : List Word
   back = reverse fw
 
   same : back_of bytes front ≡ back
-  same = front_back bytes ts front count is
-
-  opened_at : (semicolons : Bool) (opened : List Token) → back_of bytes opened ≡ opening semicolons 0 (back_of bytes front) → opening semicolons 0 back ≡ back_of bytes opened
-  opened_at semicolons opened e = sym (e ∙ ap (opening semicolons 0) same)
-
-  -- ---- a field
-
-  module _ (opened : List Token) (b : Bool) (e : back_of bytes opened ≡ opening false 0 (back_of bytes front)) (h : b ≡ in_struct (back_of bytes opened)) where
-    in_struct_is : in_struct (opening false 0 back) ≡ b
-    in_struct_is = ap in_struct (opened_at false opened e) ∙ sym h
-
-    pub no_struct : b ≡ false → false ≡ behind_field fw back
-    no_struct off = sym (ap (λ (c : Bool). c && is_whole (field (drop (length (opening true 0 back)) fw))) (in_struct_is ∙ off))
-
-    pub field_is : b ≡ true → (start : List Token) (n : ℕ) (r : Bool) → back_of bytes start ≡ opening true 0 (back_of bytes front) → n ≡ length start → r ≡ is_whole (field (drop n fw)) → r ≡ behind_field fw back
-    field_is on start n r at long h =
-        let long_is : length (opening true 0 back) ≡ n = ap length (opened_at true start at) ∙ back_length bytes start ∙ sym long in
-        h ∙ sym (ap (λ (c : Bool). c && is_whole (field (drop (length (opening true 0 back)) fw))) (in_struct_is ∙ on) ∙ ap (λ (n : ℕ). is_whole (field (drop n fw))) long_is)
+  same = front_back bytes ts front from count is
 
   -- ---- parameters
 

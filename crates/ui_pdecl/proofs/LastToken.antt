@@ -4,7 +4,7 @@ use Rattle.std.specs.Str.{bytes_eq}
 use Rattle.ui_base.specs.declared.value.Spot.{Spot}
 use Rattle.ui_scan.specs.declared.kind.Token.{Token}
 use Rattle.ui_scan.specs.declared.kind.TokenKind.{TokenKind}
-use Rattle.ui_scan.specs.declared.kind.TokenKind.TheVariants.{Ident, Int, Rune, Str, Semi, End}
+use Rattle.ui_scan.specs.declared.kind.TokenKind.TheVariants.{Semi, End}
 use Rattle.ui_scan.specs.declared.place.Place.{Place}
 use Rattle.ui_scan.specs.Table.{Entry, keywords, operators, spelled}
 use Rattle.ui_scan.specs.Language.{IsToken, identifier, keyword, operator, int, rune, string, raw_string}
@@ -13,8 +13,8 @@ use Rattle.ui_scan.specs.Tokens.{place_at, IsLexeme, AreWords, ends_line, semico
 use Rattle.ui_grammar.specs.Word.{Word, mark, word_of, words}
 use Rattle.ui_parse.specs.Kind.{is_kind}
 use Rattle.ui_parse.specs.Reader.{tail}
-use Rattle.ui_pdecl.specs.Forms.{kind_at}
-use Rattle.ui_pdecl.proofs.BackWords.{kind_of_token}
+use Rattle.ui_pexpr.specs.Back.{kind_at}
+use Rattle.ui_pexpr.specs.BackLaws.{kind_of_token}
 
 -- ---- no text spells it
 

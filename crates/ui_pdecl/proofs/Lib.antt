@@ -2,9 +2,9 @@ pub mod WholeBudget
 pub mod TypeTexts
 pub mod PartTurns
 pub mod ParamSteps
-pub mod BackWords
 pub mod Readings
 pub mod LastToken
+pub mod FaultKinds
 pub mod Decided
 pub mod FunctionSteps
 pub mod FileSteps

@@ -1,5 +1,5 @@
 -- A type parameter, read step by step.
-use Rattle.std.proofs.Common.{◌≡◌, ℕ, List, Option, Result, Ok, Err, refl}
+use Rattle.std.proofs.Common.{◌≡◌, ℕ, List, Option, Ok, Err, refl}
 use Rattle.ui_grammar.specs.Word.{Word}
 use Rattle.ui_tree.specs.declared.part.Placed.{Placed}
 use Rattle.ui_parse.specs.declared.fault.ParseError.{ParseError}

@@ -7,9 +7,9 @@ use Rattle.ui_scan.specs.declared.kind.TokenKind.TheVariants.{Semi}
 use Rattle.ui_grammar.specs.Word.{Word}
 use Rattle.ui_parse.specs.declared.fault.ParseError.{ParseError}
 use Rattle.ui_parse.specs.declared.fault.ParseError.TheVariants.{Fault}
-use Rattle.ui_parse.specs.Reader.{Outcome, Reader, and_then, pure, expect}
+use Rattle.ui_parse.specs.Reader.{Outcome, Reader, and_then, expect}
 use Rattle.ui_parse.specs.View.{Reads}
-use Rattle.ui_parse.specs.ListLaws.{reads_fault, reads_then}
+use Rattle.ui_parse.specs.ListLaws.{reads_fault}
 use Rattle.ui_stmts.specs.Decls.{behind_each, each_from, each}
 
 read_is : {A X : Type 0} (see : X → A) (o : Outcome A) (x : X) (m : List Word) → Reads see o (Ok x) m → o ≡ Ok (see x, m)

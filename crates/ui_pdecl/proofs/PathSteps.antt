@@ -1,12 +1,12 @@
 -- Searches for the first bad path and for a string, turn by turn.
-use Rattle.std.proofs.Common.{◌≡◌, ℕ, ◌+◌, ◌<◌, Bool, true, false, cond, List, [], ◌∷◌, map, length, get_or, drop, Option, Some, None, refl, sym, ap, ◌∙◌}
+use Rattle.std.proofs.Common.{◌≡◌, ℕ, ◌+◌, ◌<◌, cond, List, map, length, get_or, drop, Option, Some}
 use Rattle.std.proofs.lemmas.List.{at_drop_more}
 use Rattle.ui_base.specs.declared.value.Spot.{Spot}
 use Rattle.ui_scan.specs.declared.kind.Token.{Token}
 use Rattle.ui_tree.specs.declared.decl.ImportSpec.{ImportSpec}
 use Rattle.ui_tree.specs.declared.decl.ImportTree.{ImportTree}
 use Rattle.ui_tree.specs.StmtView.{import_view}
-use Rattle.ui_pdecl.specs.Forms.{or_else}
+use Rattle.ui_pexpr.specs.Forms.{or_else}
 use Rattle.ui_pdecl.specs.Seen.{import_spec_view}
 use Rattle.ui_pdecl.specs.FileResult.{is_bad, bad_spec, all_specs, bad_import, is_string_at, string_at}
 

@@ -1,48 +1,22 @@
 -- What readings of the front tell.
-use Rattle.std.proofs.Common.{◌≡◌, ◌≢◌, ◌⊎◌, inl, inr, ◌≤◌, ℕ, zero, suc, ◌+◌, ◌-◌, ◌*◌, ◌<◌, Bool, true, false, nat_eq, List, [], ◌∷◌, length, get_or, take, drop, map, Option, Some, None, Result, Ok, Err, refl, sym, ap, subst, ◌∙◌, arith}
-use Rattle.std.proofs.lemmas.Bool.Decides.{eqb_tells}
-use Rattle.std.proofs.lemmas.List.{drop-map, take_rest}
+use Rattle.std.proofs.Common.{◌≡◌, ℕ, suc, ◌+◌, ◌-◌, ◌*◌, nat_eq, List, length, take, map, Result, Ok, Err, refl, ap, subst, ◌∙◌, arith}
 use Rattle.ui_scan.specs.declared.kind.Token.{Token}
-use Rattle.ui_scan.specs.declared.kind.TokenKind.{TokenKind}
-use Rattle.ui_grammar.specs.Word.{Word, word_of, words}
+use Rattle.ui_grammar.specs.Word.{Word, words}
 use Rattle.ui_tree.specs.declared.decl.FileTree.{FileTree}
 use Rattle.ui_tree.specs.Stmt.{File}
 use Rattle.ui_tree.specs.StmtView.{import_view}
-use Rattle.ui_parse.specs.declared.fault.ParseError.{ParseError}
 use Rattle.ui_parse.specs.declared.fault.ParseError.TheVariants.{Fault}
 use Rattle.ui_parse.specs.Reader.{Outcome}
 use Rattle.ui_parse.specs.View.{Reads}
 use Rattle.ui_stmts.specs.Decls.{rest_of}
 use Rattle.ui_stmts.specs.Decides.{whole_file}
-use Rattle.ui_pexpr.specs.declared.fault.Form.{Form}
 use Rattle.ui_pexpr.specs.declared.fault.ParseFault.{ParseFault}
-use Rattle.ui_pexpr.specs.declared.fault.ParseFault.TheVariants.{Unexpected, NoMemory}
-use Rattle.ui_pexpr.specs.Faults.{first_offset}
+use Rattle.ui_pexpr.specs.declared.fault.ParseFault.TheVariants.{NoMemory}
+use Rattle.ui_pexpr.specs.Forms.{none_left}
+use Rattle.ui_pexpr.specs.FormLaws.{none_is}
 use Rattle.ui_pdecl.specs.declared.files.FileBody.{FileBody}
 use Rattle.ui_pdecl.specs.Seen.{see_file}
-use Rattle.ui_pdecl.specs.Forms.{none_left, is_whole, form_at}
-use Rattle.ui_pdecl.specs.FileResult.{bad_import, with_paths, enough, reads_farther, told, told_at, fault_behind, result_of, file_result, IsResult}
-
-not_none : (n : ℕ) → nat_eq (suc n) 0 ≡ false
-not_none n = by_case (eqb_tells (suc n) 0)
-  where
-    by_case : ((nat_eq (suc n) 0 ≡ true) × (suc n ≡ 0)) ⊎ ((nat_eq (suc n) 0 ≡ false) × (suc n ≢ 0)) → nat_eq (suc n) 0 ≡ false
-    by_case (inl e) = absurd (omega (arith, e.1))
-    by_case (inr e) = e.0
-
-pub none_is : (ws : List Word) → nat_eq (length ws) 0 ≡ none_left ws
-none_is [] = refl
-none_is (w ∷ ws) = not_none (length ws)
-
--- ---- what is read alone
-
-pub whole_ok : {A X : Type 0} (see : X → A) (o : Outcome A) (x : X) (left : List Word) → Reads see o (Ok x) left → nat_eq (length left) 0 ≡ is_whole o
-whole_ok see (Ok p) x left h = none_is left ∙ ap none_left h.1
-whole_ok see (Err ws) x left h = absurd h
-
-pub whole_fault : {A X : Type 0} (see : X → A) (o : Outcome A) (left : List Word) → Reads see o (Err Fault) left → false ≡ is_whole o
-whole_fault see (Ok p) left h = absurd h
-whole_fault see (Err ws) left h = refl
+use Rattle.ui_pdecl.specs.FileResult.{bad_import, with_paths, enough, reads_farther, fault_behind, result_of, file_result, IsResult}
 
 -- ---- what is left
 
@@ -67,23 +41,6 @@ module _ (ws left : List Word) (k budget : ℕ) (wide : budget ≡ 200 + 8 * (k 
   pub farther_fault : Reads see_file (whole_file (budget - 1) (take (k + 1) ws)) (Err Fault) left → nat_eq (length left) 0 ≡ reads_farther ws k
   farther_fault h = told_by (left_fault see_file _ left h)
 
--- ---- the word of the fault
-
-pub drop_words : (bytes : List ℕ) (ts rest : List Token) (k : ℕ) → rest ≡ drop k ts → drop k (words bytes ts) ≡ words bytes rest
-drop_words bytes ts rest k is = drop-map (word_of bytes) k ts ∙ ap (words bytes) (sym is)
-
-pub at_token : (bytes : List ℕ) (ts rest more : List Token) (k : ℕ) (t : Token) → rest ≡ drop k ts → rest ≡ t ∷ more
-    → told (reads_farther (words bytes ts) k) (form_at (take k (words bytes ts)) (word_of bytes t)) t.start ≡ fault_behind bytes ts k
-at_token bytes ts rest more k t is first =
-    let here : drop k (words bytes ts) ≡ word_of bytes t ∷ words bytes more = drop_words bytes ts rest k is ∙ ap (words bytes) first in
-    let begins : first_offset bytes (drop k ts) ≡ t.start = ap (first_offset bytes) (sym is ∙ first) in
-    sym (ap (λ (v : List Word). told_at (words bytes ts) k v (first_offset bytes (drop k ts))) here ∙ ap (told (reads_farther (words bytes ts) k) (form_at (take k (words bytes ts)) (word_of bytes t))) begins)
-
-pub at_no_token : (bytes : List ℕ) (ts rest : List Token) (k at : ℕ) → rest ≡ drop k ts → rest ≡ [] → at ≡ first_offset bytes rest → Unexpected at ≡ fault_behind bytes ts k
-at_no_token bytes ts rest k at is none place =
-    let here : drop k (words bytes ts) ≡ [] = drop_words bytes ts rest k is ∙ ap (words bytes) none in
-    ap Unexpected (place ∙ ap (first_offset bytes) is) ∙ sym (ap (λ (v : List Word). told_at (words bytes ts) k v (first_offset bytes (drop k ts))) here)
-
 -- ---- the result of a whole file
 
 module _ (own bytes : List ℕ) (ts : List Token) (left : List Word) where
@@ -104,20 +61,3 @@ module _ (own bytes : List ℕ) (ts : List Token) (left : List Word) where
       by_outcome : (o : Outcome File) → Reads see_file o (Err Fault) left → IsResult (result_of own bytes ts o) (Err g)
       by_outcome (Ok p) e = absurd e
       by_outcome (Err ws) e = λ some. told some ∙ ap (fault_behind bytes ts) (long ∙ ap (λ (v : List Word). length ts - length v) e)
-
--- ---- the first of the tokens that are left
-
-record First (rest : List Token) (d : Token) : Type 0 where
-  more : List Token
-  is : rest ≡ get_or rest 0 d ∷ more
-
-first_of_rest : (rest : List Token) (d : Token) → 1 ≤ length rest → First rest d
-first_of_rest [] d le = absurd (omega arith)
-first_of_rest (t ∷ ts) d le = record { more = ts; is = refl }
-
-pub at_rest : (bytes : List ℕ) (ts : List Token) (k : ℕ) (d : Token) → let rest = take (length ts - k) (drop k ts) in 1 ≤ length rest
-    → told (reads_farther (words bytes ts) k) (form_at (take k (words bytes ts)) (word_of bytes (get_or rest 0 d))) (get_or rest 0 d).start ≡ fault_behind bytes ts k
-at_rest bytes ts k d le =
-    let rest : List Token = take (length ts - k) (drop k ts) in
-    let f = first_of_rest rest d le in
-    at_token bytes ts rest f.more k (get_or rest 0 d) (take_rest ts k) f.is

@@ -1,5 +1,5 @@
 -- No two strings of a file stand at one line and column.
-use Rattle.std.proofs.Common.{◌≡◌, ℕ, ◌+◌, ◌-◌, ◌<◌, ◌≤◌, Bool, true, false, ◌&&◌, cond, nat_eq, List, [], ◌∷◌, ◌++◌, length, take, drop, Option, Some, None, refl, sym, ap, subst, ◌∙◌, arith, length-drop}
+use Rattle.std.proofs.Common.{◌≡◌, ℕ, ◌+◌, ◌-◌, ◌<◌, ◌≤◌, Bool, true, false, ◌&&◌, cond, List, [], ◌∷◌, ◌++◌, length, take, drop, Option, Some, None, refl, sym, ap, subst, ◌∙◌, arith, length-drop}
 use Rattle.std.specs.Prelude.{◌==◌}
 use Rattle.std.specs.List.{fold}
 use Rattle.std.proofs.lemmas.Bool.{eqb-true, eq-eqb}
@@ -9,9 +9,9 @@ use Rattle.std.proofs.Math.Seq.{take-add}
 use Rattle.ui_base.specs.declared.value.Spot.{Spot}
 use Rattle.ui_scan.specs.declared.kind.Token.{Token}
 use Rattle.ui_scan.specs.declared.kind.TokenKind.{TokenKind}
-use Rattle.ui_scan.specs.declared.kind.TokenKind.TheVariants.{Str, Semi, End}
+use Rattle.ui_scan.specs.declared.kind.TokenKind.TheVariants.{Str, End}
 use Rattle.ui_scan.specs.declared.place.Place.{Place}
-use Rattle.ui_scan.specs.Scan.{past, place_after, origin, token_between, due_after}
+use Rattle.ui_scan.specs.Scan.{past, place_after, origin, due_after}
 use Rattle.ui_scan.specs.Tokens.{place_at, AreWords, ends_line, semicolon_before, with_semicolons, Tokens}
 use Rattle.ui_parse.specs.Kind.{is_kind, same_kind, kind_is}
 use Rattle.ui_pdecl.specs.FileResult.{is_string_at, string_at}

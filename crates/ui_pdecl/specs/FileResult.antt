@@ -1,8 +1,9 @@
 -- What the tokens of a file give: its tree, or where and why it has none.
-use Rattle.std.specs.Prelude.{◌≡◌, ℕ, suc, ◌+◌, ◌-◌, ◌*◌, Bool, true, false, not, ◌&&◌, ◌||◌, ◌==◌, List, [], ◌∷◌, length, take, drop, Option, Some, None, Result, Ok, Err, bytes_eq, if◌then◌else◌}
+use Rattle.std.specs.Prelude.{◌≡◌, ℕ, suc, ◌+◌, ◌-◌, ◌*◌, Bool, not, ◌&&◌, ◌||◌, ◌==◌, List, [], ◌∷◌, length, take, drop, Option, Some, None, Result, Ok, Err, bytes_eq, if◌then◌else◌}
 use Rattle.ui_base.specs.declared.value.Spot.{Spot}
 use Rattle.ui_base.specs.Paths.{is_path}
 use Rattle.ui_scan.specs.declared.kind.Token.{Token}
+use Rattle.ui_scan.specs.declared.kind.TokenKind.{TokenKind}
 use Rattle.ui_scan.specs.declared.kind.TokenKind.TheVariants.{Str}
 use Rattle.ui_tree.specs.declared.part.Specs.{Specs}
 use Rattle.ui_tree.specs.declared.part.Specs.TheVariants.{One, Grouped}
@@ -14,11 +15,11 @@ use Rattle.ui_parse.specs.Kind.{is_kind}
 use Rattle.ui_parse.specs.Reader.{Outcome}
 use Rattle.ui_stmts.specs.Decls.{rest_of}
 use Rattle.ui_stmts.specs.Decides.{whole_file}
-use Rattle.ui_pexpr.specs.declared.fault.Form.{Form}
 use Rattle.ui_pexpr.specs.declared.fault.ParseFault.{ParseFault}
-use Rattle.ui_pexpr.specs.declared.fault.ParseFault.TheVariants.{Unexpected, TooDeep, Outside, BadImportPath, NoMemory}
-use Rattle.ui_pexpr.specs.Faults.{first_offset}
-use Rattle.ui_pdecl.specs.Forms.{none_left, or_else, form_at}
+use Rattle.ui_pexpr.specs.declared.fault.ParseFault.TheVariants.{Unexpected, BadImportPath, NoMemory}
+use Rattle.ui_pexpr.specs.Faults.{first_offset, first_kind, told}
+use Rattle.ui_pexpr.specs.Forms.{none_left, or_else}
+use Rattle.ui_pdecl.specs.Forms.{form_by_kind}
 
 -- ---- the paths of imports
 
@@ -61,18 +62,13 @@ enough n = 8 * n + 16
 abbrev pub reads_farther : List Word → ℕ → Bool
 reads_farther ws k = none_left (rest_of (whole_file (199 + enough (suc k)) (take (suc k) ws)))
 
-abbrev pub told : Bool → Option Form → ℕ → ParseFault
-told true f at = TooDeep at
-told false (Some f) at = Outside at f
-told false None at = Unexpected at
+-- the fault behind the first k words, where a token of this kind is there, or none is
+abbrev pub told_at : List Word → ℕ → Option TokenKind → ℕ → ParseFault
+told_at ws k None at = Unexpected at
+told_at ws k (Some kind) at = told (reads_farther ws k) (form_by_kind (take k ws) kind) at
 
-abbrev pub told_at : List Word → ℕ → List Word → ℕ → ParseFault
-told_at ws k [] at = Unexpected at
-told_at ws k (w ∷ rest) at = told (reads_farther ws k) (form_at (take k ws) w) at
-
--- the fault at the word behind the first k
 abbrev pub fault_behind : List ℕ → List Token → ℕ → ParseFault
-fault_behind bytes ts k = told_at (words bytes ts) k (drop k (words bytes ts)) (first_offset bytes (drop k ts))
+fault_behind bytes ts k = told_at (words bytes ts) k (first_kind (drop k ts)) (first_offset bytes (drop k ts))
 
 -- ---- the result
 

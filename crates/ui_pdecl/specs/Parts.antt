@@ -1,5 +1,5 @@
 -- Parts of readers that the code reads by calls of their own.
-use Rattle.std.specs.Prelude.{ℕ, Bool, true, false, ◌&&◌, List, [], ◌∷◌, length, Option, Some, None, Ok, Err, nat_le, if◌then◌else◌}
+use Rattle.std.specs.Prelude.{ℕ, Bool, true, false, ◌&&◌, List, [], ◌∷◌, length, Option, None, nat_le, if◌then◌else◌}
 use Rattle.ui_base.specs.declared.value.Spot.{Spot}
 use Rattle.ui_scan.specs.declared.kind.TokenKind.TheVariants.{LBracket, Assign, «Type» as AType, Func}
 use Rattle.ui_tree.specs.declared.part.Placed.{Placed}

@@ -1,16 +1,15 @@
 //! The call of other crates: a file's tree, or where and why the tokens have none.
 
-ghost use Rattle.std.specs.Prelude.{◌≡◌, ◌≤◌, ◌<◌, ◌^◌, IfOk, Ok, length, drop, map};
+ghost use Rattle.std.specs.Prelude.{◌≡◌, ◌≤◌, ◌<◌, ◌^◌, IfOk, length, map};
 ghost use Rattle.ui_scan.specs.Tokens.{Tokens};
 ghost use Rattle.ui_tree.specs.StmtView.{import_view};
-ghost use Rattle.ui_pexpr.specs.Faults as faults;
 ghost use Rattle.ui_pexpr.specs.declared.fault.ParseFault.TheVariants.{NoMemory as no_memory};
 ghost use Rattle.ui_pdecl.specs.FileResult as spec;
 ghost use Rattle.ui_pdecl.specs.FileResult.{IsResult, file_result};
 ghost use Rattle.ui_pdecl.specs.Seen.{see_file};
 
 use crate::files::{FileBody, whole_file};
-use crate::front::Front;
+use crate::front::fault_behind;
 use crate::paths::{bad_import, string_at};
 use std::alloc::Global;
 use ui_base::Text;
@@ -22,34 +21,14 @@ use ui_tree::FileTree;
 /// The greatest depth of a file.
 const DEEPEST: u32 = 200;
 
-// Where the tokens begin, or the bytes end.
-fn first_offset(bytes: &[u8], tokens: &[Token]) -> usize
-    ensures { result ≡ faults.first_offset bytes.now tokens.now }
-{
-    match tokens {
-        [] => bytes.len(),
-        [first, ..] => first.start,
-    }
-}
-
-// The fault at the word behind the first so many.
-fn fault_behind(alloc: Global, bytes: &[u8], tokens: &[Token], count: usize) -> ParseFault
+// The fault behind the first so many words.
+fn file_fault(alloc: Global, bytes: &[u8], tokens: &[Token], count: usize) -> ParseFault
     requires scanned { Tokens bytes.now tokens.now }
     requires inside { count ≤ length tokens.now }
     requires room { length tokens.now < 2 ^ 28 }
     ensures { (result ≡ no_memory → ⊥) → result ≡ spec.fault_behind bytes.now tokens.now count }
 {
-    let rest = &tokens[count..];
-    let at = first_offset(bytes, rest);
-    let [token, ..] = rest else {
-        return ParseFault::Unexpected { at };
-    };
-    let front = Front {
-        bytes,
-        tokens,
-        count,
-    };
-    match front.fault(alloc, token) {
+    match fault_behind(alloc, bytes, tokens, count) {
         Ok(fault) => fault,
         Err(_) => ParseFault::NoMemory,
     }
@@ -108,7 +87,7 @@ pub fn parse_file(
         Err(ParseError::NoMemory) => Err(ParseFault::NoMemory),
         Err(ParseError::Fault) => {
             let count = tokens.len().saturating_sub(words.left());
-            Err(fault_behind(alloc, bytes, tokens, count))
+            Err(file_fault(alloc, bytes, tokens, count))
         }
     }
 }

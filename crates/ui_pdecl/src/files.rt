@@ -1,6 +1,6 @@
 //! Files. Go specification, "Source file organization".
 
-ghost use Rattle.std.specs.Prelude.{◌≡◌, ◌-◌, ◌<◌};
+ghost use Rattle.std.specs.Prelude.{◌-◌, ◌<◌};
 ghost use Rattle.ui_parse.specs.View.{Reads};
 ghost use Rattle.ui_stmts.specs.Decides as decides;
 ghost use Rattle.ui_stmts.specs.Decls as spec;

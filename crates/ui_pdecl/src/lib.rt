@@ -2,7 +2,6 @@
 #![tactic(auto)]
 
 mod api;
-mod back;
 mod budgets;
 mod decls;
 mod each;
@@ -18,7 +17,7 @@ mod type_params;
 mod type_specs;
 
 pub use api::parse_file;
-pub use laws::file_result_decides;
+pub use laws::{file_faults_stay, file_result_decides};
 
 #[cfg(test)]
 mod tests;

@@ -15,5 +15,5 @@ pub returns-in-Err-Fault-clause-parsed : goal.returns-in-Err-Fault-clause-parsed
 returns-in-Err-Fault-clause-parsed c =
     let left = c.whole_file.new.words in
     let long : c.saturating_sub-count.result ≡ length c.args.tokens.now - length left = omega (arith, c.left.ensures) in
-    result_fault c.args.own.now c.args.bytes.now c.args.tokens.now left c.saturating_sub-count.result c.fault_behind.result
-    (subst (λ (v : List Word). Reads see_file (whole_file 199 v) (Err Fault) left) c.new-words.ensures (rw c.in-Err-Fault.field-0-is at c.in-Err-Fault.ensures)) long c.fault_behind.ensures
+    result_fault c.args.own.now c.args.bytes.now c.args.tokens.now left c.saturating_sub-count.result c.file_fault.result
+    (subst (λ (v : List Word). Reads see_file (whole_file 199 v) (Err Fault) left) c.new-words.ensures (rw c.in-Err-Fault.field-0-is at c.in-Err-Fault.ensures)) long c.file_fault.ensures

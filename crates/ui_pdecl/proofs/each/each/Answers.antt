@@ -1,4 +1,4 @@
-use Rattle.std.proofs.Common.{◌≡◌, ℕ, suc, List, [], length, sym, ap, ◌∙◌}
+use Rattle.std.proofs.Common.{ℕ, suc, List, length, ap, ◌∙◌}
 use Rattle.std.proofs.lemmas.Result.{err_from_is_err_and}
 use Rattle.ui_stmts.specs.Decls.{each}
 use Rattle.ui_pdecl.proofs.PartTurns.{go, begins, at_fault, at_end, no_semicolon, at_spent, at_more}
