@@ -1,0 +1,8 @@
+//! Faulty texts, with the place and the kind of the fault of each, worked out by hand from the grammar: of expressions, types
+//! and signatures, and of files. All is tests.
+#![tactic(auto)]
+
+#[cfg(test)]
+mod files;
+#[cfg(test)]
+mod forms;
