@@ -276,7 +276,7 @@ reads_form path sources form found is finds = record { sources = sources; found 
 -- ---- a linked file that was read
 
 -- the refusals of a linked file
-abbrev IsLinked : Refusal → Type 0
+abbrev pub IsLinked : Refusal → Type 0
 IsLinked (NoFile name) = ⊥
 IsLinked (Form name) = ⊥
 IsLinked (Faulty fault) = ⊥
@@ -302,7 +302,7 @@ no_container : (name path bytes : Text) (failed : Option FrameFault) (r : Refusa
 no_container name path bytes (Some fault) r e = linked_is (BadFrame name fault) r e tt
 no_container name path bytes None r e = no_element name path (fingerprint (parts_in bytes)) (record_in (parts_in bytes)) r e
 
-recorded_refused : (name path : Text) (bytes : Option Text) (r : Refusal) → recorded name path bytes ≡ Err r → IsLinked r
+pub recorded_refused : (name path : Text) (bytes : Option Text) (r : Refusal) → recorded name path bytes ≡ Err r → IsLinked r
 unfolding recorded
 recorded_refused name path None r e = linked_is (TooLong name) r e tt
 recorded_refused name path (Some bytes) r e = no_container name path bytes (first_failing bytes) r e

@@ -16,3 +16,4 @@ pub mod Finding
 pub mod Built
 pub mod Hearing
 pub mod Anything
+pub mod Dumped

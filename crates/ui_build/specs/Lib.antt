@@ -7,3 +7,4 @@ pub mod Stops
 pub mod Views
 pub mod Heard
 pub mod Built
+pub mod Dump

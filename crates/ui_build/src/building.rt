@@ -1,12 +1,11 @@
 // A package and the packages below it are built.
-ghost use Rattle.std.specs.Prelude.{◌≡◌};
 ghost use Rattle.ui_build.specs.Build.{build};
 ghost use Rattle.ui_build.specs.Heard.{Builds, Hears};
 ghost use Rattle.ui_build.specs.Stops.{state, DoesTold, HasCause};
 
 use crate::compiling::compile_all;
 use crate::discovering::build_order;
-use crate::loading::{Loaded, load};
+use crate::loading::{load, package_of};
 use crate::stop::Stop;
 use std::alloc::Global;
 use ui_consts::reads_back;
@@ -14,13 +13,6 @@ use ui_exports::Package;
 use ui_frame::one_container;
 use ui_order::{discovery_keeps, order_is_whole};
 use ui_store::Store;
-
-// What the package of a linked file that was read exports.
-fn package_of(loaded: Loaded) -> Package
-    ensures { result ≡ loaded.linked.export }
-{
-    loaded.linked.package
-}
 
 /// Builds a package: finds it and the packages below it, compiles each behind its imports, and reads the package back from
 /// its linked file.

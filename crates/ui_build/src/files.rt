@@ -4,6 +4,7 @@ ghost use Rattle.std.specs.Option.{option_map};
 ghost use Rattle.ui_store.specs.Files.{texts, put};
 ghost use Rattle.ui_build.specs.Package.{list_folder, read_file};
 ghost use Rattle.ui_build.specs.Plan.{Entry, writing};
+ghost use Rattle.ui_build.specs.Dump.{IsReadStop};
 ghost use Rattle.ui_build.specs.Heard.{HasListed, HasRead, Hears, HearsNothing};
 ghost use Rattle.ui_build.specs.Stops.{state, Does, DoesTold, HasCause, IsFileOf};
 
@@ -46,6 +47,7 @@ pub fn read_file<S: Store>(
     ensures files { S.files store.new ≡ S.files store.old }
     ensures heard { Hears (λ o. HasRead (string_bytes name, option_map (λ v. v.items) o)) (S.heard store.old) (S.heard store.new) result }
     ensures cause { HasCause (S.faults store.old) (S.faults store.new) (S.asked store.new) result }
+    ensures stop { IfErr result IsReadStop }
 {
     match store.read(alloc, name.as_str(), limit) {
         Ok(bytes) => Ok(Some(bytes)),

@@ -1,5 +1,5 @@
 // Linked files, read.
-ghost use Rattle.std.specs.Prelude.{◌≡◌, ◌≤◌, true, [], IfOk, option_map, string_bytes, map, length};
+ghost use Rattle.std.specs.Prelude.{◌≡◌, ◌≤◌, true, [], IfErr, IfOk, option_map, string_bytes, map, length};
 ghost use Rattle.std.specs.List.{AllByRecursion, list_all};
 ghost use Rattle.ui_base.specs.Paths.{is_path};
 ghost use Rattle.ui_frame.specs.Laws.{IsBytes};
@@ -8,6 +8,7 @@ ghost use Rattle.ui_consts.specs.Reading.{record_in};
 ghost use Rattle.ui_consts.specs.Size.{IsListed};
 ghost use Rattle.ui_below.specs.Claims.{claims};
 ghost use Rattle.ui_build.specs.Loading.{load, load_all, or_element, recorded};
+ghost use Rattle.ui_build.specs.Dump.{IsReadStop};
 ghost use Rattle.ui_build.specs.Heard.{Hears, Loads, LoadsImports};
 ghost use Rattle.ui_build.specs.Views.{loaded_of, imports_of, is_sound};
 ghost use Rattle.ui_build.specs.Stops.{state, DoesTold, HasCause, Settles};
@@ -17,7 +18,7 @@ use crate::names::{copy, linked_file};
 use crate::stop::{Refusal, Stop};
 use std::alloc::Global;
 use ui_consts::{lists_are_lists, read_linked};
-use ui_exports::Linked;
+use ui_exports::{Linked, Package};
 use ui_frame::{Frame, one_container};
 use ui_store::Store;
 
@@ -26,6 +27,13 @@ use ui_store::Store;
 pub struct Loaded {
     pub linked: Linked,
     pub print: [u8; 8],
+}
+
+/// What the package of a linked file that was read exports.
+pub fn package_of(loaded: Loaded) -> Package
+    ensures { result ≡ loaded.linked.export }
+{
+    loaded.linked.package
 }
 
 /// What the linked files of imports stand for, and their fingerprints.
@@ -82,6 +90,7 @@ pub fn load<S: Store>(alloc: Global, store: &mut S, path: &str) -> Result<Loaded
     ensures files { S.files store.new ≡ S.files store.old }
     ensures heard { Hears (λ l. Loads path.now (loaded_of l)) (S.heard store.old) (S.heard store.new) result }
     ensures cause { HasCause (S.faults store.old) (S.faults store.new) (S.asked store.new) result }
+    ensures stop { IfErr result IsReadStop }
     ensures listed { IfOk result (λ l. IsListed l.linked.below) }
     ensures own { IfOk result (λ l. l.linked.export.path ≡ path.now) }
 {

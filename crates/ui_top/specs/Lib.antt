@@ -3,3 +3,4 @@ pub mod Kinds
 pub mod Outcome
 pub mod Ends
 pub mod Scene
+pub mod Invocations

@@ -1,5 +1,6 @@
--- The outcome of each command over the files that a store tells, by the program's sources.
-use Rattle.std.specs.Prelude.{List, [], ◌∷◌, ◌++◌, map, Option, Some, None, Result, Ok, Err, String, string_bytes, codes, bytes_eq, decimal, ◌&&◌, if◌then◌else◌}
+-- The outcome of each command over the files that a store tells: of a build by the program's sources, of a dump by the
+-- linked file.
+use Rattle.std.specs.Prelude.{List, [], ◌∷◌, ◌++◌, map, Option, Some, None, Result, Ok, Err, String, string_bytes, codes, bytes_eq, decimal, if◌then◌else◌}
 use Rattle.std.specs.declared.alloc.Global.{Global}
 use Rattle.hex.specs.Hex.{encode_lower}
 use Rattle.ui_base.specs.Paths.{is_path}
@@ -12,6 +13,7 @@ use Rattle.ui_base.specs.declared.value.Pos.{Pos}
 use Rattle.ui_exports.specs.Export.{Export}
 use Rattle.ui_build.specs.Plan.{Text, Refusal, NoFile, Faulty, Form, TooLong, BadFrame, BadElement, TooMany, Cycle, Stale, Put, Plan}
 use Rattle.ui_build.specs.Build.{build}
+use Rattle.ui_build.specs.Dump.{dump}
 use Rattle.ui_top.specs.Answers.{answers, are_answered}
 use Rattle.ui_top.specs.Kinds.{kind_text}
 use Rattle.ui_top.specs.declared.status.Status.{Status}
@@ -28,8 +30,9 @@ pub record Outcome : Type 0 where
 
 -- a command with its operands
 pub data Command : Type 0 where
-  -- the path of a package, and queries
+  -- the path of a package, and queries: it is built, or its linked file is read
   Build : Text → List Text → Command
+  Dump : Text → List Text → Command
 
 abbrev pub line : Text → Text → Text
 line label name = label ++ name ++ codes "\n"
@@ -102,18 +105,31 @@ line_of (Err refusal) = refusal_line refusal
 abbrev pub of_plan : List Text → Plan Export → Outcome
 of_plan queries plan = record { ends = ends_of queries plan.value; out = out_of queries plan.value; line = line_of plan.value; asks = plan.asks; puts = plan.puts }
 
+-- how a command comes to what a package exports
+abbrev pub plan_of : Files → Command → Plan Export
+plan_of files (Build path queries) = build files path
+plan_of files (Dump path queries) = dump files path
+
+abbrev pub queries_of : Command → List Text
+queries_of (Build path queries) = queries
+queries_of (Dump path queries) = queries
+
 unfoldable pub outcome : Files → Command → Outcome
-outcome files (Build path queries) = of_plan queries (build files path)
+outcome files command = of_plan (queries_of command) (plan_of files command)
 
 -- the texts of words
 abbrev pub words_of : List (String Global) → List Text
 words_of words = map string_bytes words
 
+-- the command of a word that a path and queries follow
+abbrev pub command_at : Text → Text → List Text → Option Command
+command_at word path queries = if bytes_eq word (codes "build") then Some (Build path queries) else (if bytes_eq word (codes "dump") then Some (Dump path queries) else None)
+
 -- the command that the words spell
 unfoldable pub command_of : List Text → Option Command
 command_of [] = None
 command_of (word ∷ []) = None
-command_of (word ∷ path ∷ queries) = if bytes_eq word (codes "build") && is_path path then Some (Build path queries) else None
+command_of (word ∷ path ∷ queries) = if is_path path then command_at word path queries else None
 
 -- the line of words that spell no command
 abbrev pub usage : Text

@@ -11,7 +11,8 @@ use Rattle.ui_build.specs.Plan.{Text, Refusal}
 use Rattle.ui_top.specs.Answers.{answers}
 use Rattle.ui_build.specs.Stops.{Puts, PutsFront, AsksFront, EndsWith}
 use Rattle.ui_build.specs.Heard.{RefusedBy, Builds}
-use Rattle.ui_top.specs.Outcome.{Outcome, Command, Build, outcome, line, refused_as, refusal_line, answers_end, usage}
+use Rattle.ui_build.specs.Dump.{Dumps}
+use Rattle.ui_top.specs.Outcome.{Outcome, Command, Build, Dump, outcome, queries_of, line, refused_as, refusal_line, answers_end, usage}
 use Rattle.ui_top.specs.declared.status.Status.{Status}
 use Rattle.ui_top.specs.declared.status.Status.TheVariants as status
 
@@ -101,43 +102,59 @@ pub record Refuses (old new : Scene) (ends : Status) : Type 0 where
   pub line : Said (refusal_line refusal) old new
   pub out : new.out ≡ old.out
 
--- A package was built from what was heard, and its linked file as it was heard last stands for the export.
-pub record Built (path : Text) (export : Export) (old new : Scene) : Type 0 where
+-- What a command hears that comes to this export: a build, whose linked file as it was heard last stands for it, or that
+-- file alone.
+abbrev pub Gives : Command → Export → List Hearing → Type 0
+Gives (Build path queries) export heard = Builds path export heard
+Gives (Dump path queries) export heard = Dumps path export heard
+
+-- What was heard comes to this export.
+pub record Exported (command : Command) (export : Export) (old new : Scene) : Type 0 where
   pub heard : List Hearing
   pub told : new.heard ≡ more old.heard heard
-  pub builds : Builds path export heard
+  pub gives : Gives command export heard
 
 -- The queries were answered by the linked file as it was heard.
-pub record Answers (path : Text) (queries : List Text) (old new : Scene) (ends : Status) : Type 0 where
+pub record Answers (command : Command) (old new : Scene) (ends : Status) : Type 0 where
   pub export : Export
-  pub built : Built path export old new
-  pub status : ends ≡ answers_end export queries
-  pub out : new.out ≡ more old.out (answers export queries)
+  pub exported : Exported command export old new
+  pub status : ends ≡ answers_end export (queries_of command)
+  pub out : new.out ≡ more old.out (answers export (queries_of command))
   pub line : Said [] old new
 
 -- a front of those answers is written
-abbrev pub AnswersPartly : Text → List Text → Scene → Scene → Type 0
-AnswersPartly path queries old new = (export : Export) × Built path export old new × Partly old.out new.out (answers export queries)
+abbrev pub AnswersPartly : Command → Scene → Scene → Type 0
+AnswersPartly command old new = (export : Export) × Exported command export old new × Partly old.out new.out (answers export (queries_of command))
+
+-- A fault of a write ended it, which a command that writes nothing never has.
+abbrev pub FailsWriting : Command → Scene → Scene → Type 0
+FailsWriting (Build path queries) old new = Rose old.faults new.faults × ((name : Text) × EndsWith new.asked (ask.Write, name) × Said (line (codes "write fault: ") name) old new) × (new.out ≡ old.out)
+FailsWriting (Dump path queries) old new = ⊥
+
+-- It was refused by sources, or by linked files that don't fit together, which a command that reads one file never is.
+abbrev pub RefusesPackage : Command → Scene → Scene → Status → Type 0
+RefusesPackage (Build path queries) old new ends = Refuses old new ends
+RefusesPackage (Dump path queries) old new ends = ⊥
 
 -- Why a command ends so, over every store, source and sink: a fault comes from its device, whose count rose, and names
--- the last call; a refusal and the answers come from what the store gave; and which ends a build has.
+-- the last call; a refusal and the answers come from what the store gave; and which ends a command has.
 abbrev pub Caused : Command → Scene → Scene → Status → Type 0
 Caused command old new status.ReadFault = Rose old.faults new.faults × ((name : Text) × ReadLast new.asked name × Said (line (codes "read fault: ") name) old new) × (new.out ≡ old.out)
-Caused command old new status.WriteFault = Rose old.faults new.faults × ((name : Text) × EndsWith new.asked (ask.Write, name) × Said (line (codes "write fault: ") name) old new) × (new.out ≡ old.out)
-Caused (Build path queries) old new status.OutFault = Rose old.out_faults new.out_faults × Said (line (codes "output fault") []) old new × AnswersPartly path queries old new
-Caused (Build path queries) old new status.NoMemory = Said (line (codes "no memory") []) old new × ((new.out ≡ old.out) ⊎ AnswersPartly path queries old new)
-Caused (Build path queries) old new status.Usage = ⊥
-Caused (Build path queries) old new status.InputTooLong = ⊥
-Caused (Build path queries) old new status.Ok = Answers path queries old new status.Ok
-Caused (Build path queries) old new status.QueryRefused = Answers path queries old new status.QueryRefused
-Caused command old new status.Refused = Refuses old new status.Refused
+Caused command old new status.WriteFault = FailsWriting command old new
+Caused command old new status.OutFault = Rose old.out_faults new.out_faults × Said (line (codes "output fault") []) old new × AnswersPartly command old new
+Caused command old new status.NoMemory = Said (line (codes "no memory") []) old new × ((new.out ≡ old.out) ⊎ AnswersPartly command old new)
+Caused command old new status.Usage = ⊥
+Caused command old new status.InputTooLong = ⊥
+Caused command old new status.Ok = Answers command old new status.Ok
+Caused command old new status.QueryRefused = Answers command old new status.QueryRefused
+Caused command old new status.Refused = RefusesPackage command old new status.Refused
 Caused command old new status.NoFile = Refuses old new status.NoFile
 Caused command old new status.BadFile = Refuses old new status.BadFile
-Caused command old new status.Stale = Refuses old new status.Stale
+Caused command old new status.Stale = RefusesPackage command old new status.Stale
 
 -- What a command does.
 pub record Runs (command : Command) (old new : Scene) (ends : Status) : Type 0 where
-  -- over a store that tells its files: the outcome by the sources alone
+  -- over a store that tells its files: the outcome by the sources alone, or by the file that is dumped
   pub reaches : IfSome old.files (λ told. Reaches (outcome told command) old new ends)
   -- over every store, source and sink
   pub caused : Caused command old new ends

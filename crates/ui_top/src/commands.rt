@@ -1,7 +1,8 @@
 // The commands.
-ghost use Rattle.std.specs.Prelude.{◌≡◌, ◌≤◌, ℕ, List, Option, None, Some, true, length, drop, MatchOption};
-ghost use Rattle.ui_base.specs.Paths.{is_path};
-ghost use Rattle.ui_top.specs.Outcome.{Command, Build, command_of, words_of, usage};
+ghost use Rattle.std.specs.Prelude.{◌≡◌, ℕ, List, Option, None, Some, option_map};
+ghost use Rattle.ui_top.specs.Invocations.{command_as};
+ghost use Rattle.ui_top.specs.Ends.{sink, EndsBy};
+ghost use Rattle.ui_top.specs.Outcome.{Command, Build, Dump, command_at, command_of, words_of, usage};
 ghost use Rattle.ui_top.specs.Scene.{scene, Runs, RunsUsage, Completes};
 
 use crate::answers::answer_all;
@@ -10,9 +11,38 @@ use crate::status::Status;
 use std::alloc::Global;
 use std::sync::ledger::Ledger;
 use ui_base::is_path;
-use ui_build::build;
+use ui_build::{Stop, build, dump};
+use ui_exports::Package;
 use ui_steps::Steps;
 use ui_store::{Sink, Source, Store};
+
+// A command with its operands.
+#[derive(Clone, Copy)]
+enum Invocation<'a> {
+    /// A package and those below it are built, and the queries answered from its linked file.
+    Build(&'a str, &'a [String]),
+    /// The queries are answered from the linked file of a package as it is.
+    Dump(&'a str, &'a [String]),
+}
+
+// Answers the queries by what a package exports, or says what stopped the command before.
+fn answer_by<O: Sink, E: Sink>(
+    alloc: Global,
+    exported: Result<Package, Stop>,
+    queries: &[String],
+    out: &mut O,
+    err: &mut E,
+) -> Status
+    ensures { EndsBy exported (words_of queries.now) (sink (O.written out.old) (O.faults out.old)) (sink (O.written out.new) (O.faults out.new)) (sink (E.written err.old) (E.faults err.old)) (sink (E.written err.new) (E.faults err.new)) result }
+{
+    match exported {
+        Ok(package) => {
+            let answered = answer_all(alloc, &package, queries, out);
+            report_answers(answered, err)
+        }
+        Err(stop) => report(&stop, err),
+    }
+}
 
 // Builds a package and those below it, and answers the queries from its linked file.
 fn run_build<S: Store, O: Sink, E: Sink>(
@@ -23,34 +53,54 @@ fn run_build<S: Store, O: Sink, E: Sink>(
     out: &mut O,
     err: &mut E,
 ) -> Status
-    requires { is_path path.now ≡ true }
     ensures { (input : Option (List ℕ)) (input_faults steps : ℕ) → Runs (Build path.now (words_of queries.now))
         (scene (S.files store.old) (S.asked store.old) (S.heard store.old) (S.faults store.old) input input_faults (O.written out.old) (O.faults out.old) (E.written err.old) (E.faults err.old) steps)
         (scene (S.files store.new) (S.asked store.new) (S.heard store.new) (S.faults store.new) input input_faults (O.written out.new) (O.faults out.new) (E.written err.new) (E.faults err.new) steps) result }
 {
-    match build(alloc, store, path) {
-        Ok(package) => {
-            let answered = answer_all(alloc, &package, queries, out);
-            report_answers(answered, err)
-        }
-        Err(stop) => report(&stop, err),
+    let exported = build(alloc, store, path);
+    answer_by(alloc, exported, queries, out, err)
+}
+
+// Answers the queries from the linked file of a package as it is.
+fn run_dump<S: Store, O: Sink, E: Sink>(
+    alloc: Global,
+    path: &str,
+    queries: &[String],
+    store: &mut S,
+    out: &mut O,
+    err: &mut E,
+) -> Status
+    ensures { (input : Option (List ℕ)) (input_faults steps : ℕ) → Runs (Dump path.now (words_of queries.now))
+        (scene (S.files store.old) (S.asked store.old) (S.heard store.old) (S.faults store.old) input input_faults (O.written out.old) (O.faults out.old) (E.written err.old) (E.faults err.old) steps)
+        (scene (S.files store.new) (S.asked store.new) (S.heard store.new) (S.faults store.new) input input_faults (O.written out.new) (O.faults out.new) (E.written err.new) (E.faults err.new) steps) result }
+{
+    let exported = dump(alloc, store, path);
+    answer_by(alloc, exported, queries, out, err)
+}
+
+// What a word asks for that a path and queries follow.
+fn command_at<'a>(word: &str, path: &'a str, queries: &'a [String]) -> Option<Invocation<'a>>
+    ensures { option_map command_as result ≡ command_at word.now path.now (words_of queries.now) }
+{
+    match word {
+        "build" => Some(Invocation::Build(path, queries)),
+        "dump" => Some(Invocation::Dump(path, queries)),
+        _ => None,
     }
 }
 
-// The path of words that spell a build.
+// What the words ask for.
 #[tactic(auto, unfolding(crate::specs::Outcome::command_of))]
-fn build_path(words: &[String]) -> Option<&str>
-    ensures { MatchOption result (command_of (words_of words.now) ≡ None) (λ path. (2 ≤ length words.now) × (is_path path.now ≡ true) × (command_of (words_of words.now) ≡ Some (Build path.now (words_of (drop 2 words.now))))) }
+fn command_of(words: &[String]) -> Option<Invocation<'_>>
+    ensures { option_map command_as result ≡ command_of (words_of words.now) }
 {
-    if words.len() < 2 {
+    let [word, path, queries @ ..] = words else {
+        return None;
+    };
+    if !is_path(path.as_bytes()) {
         return None;
     }
-    let path = words[1].as_str();
-    if words[0].as_str() == "build" && is_path(path.as_bytes()) {
-        Some(path)
-    } else {
-        None
-    }
+    command_at(word.as_str(), path.as_str(), queries)
 }
 
 /// The line of words that spell no command.
@@ -59,7 +109,8 @@ const USAGE: &[u8] =
 
 /// Does what the words say, over a store, a source and two sinks: answers go to `out`, and a fault's one line to `err`.
 ///
-/// The one command so far is `build PATH QUERY...`, of packages of constants that are sums.
+/// The commands so far are `build PATH QUERY...`, of packages of constants that are sums, and `dump PATH QUERY...`, which
+/// answers from a linked file alone.
 pub fn run<S: Store, I: Source, O: Sink, E: Sink, L: Ledger>(
     alloc: Global,
     words: &[String],
@@ -73,7 +124,7 @@ pub fn run<S: Store, I: Source, O: Sink, E: Sink, L: Ledger>(
     ensures usage { command_of (words_of words.now) ≡ None → RunsUsage
         (scene (S.files store.old) (S.asked store.old) (S.heard store.old) (S.faults store.old) (I.left input.old) (I.faults input.old) (O.written out.old) (O.faults out.old) (E.written err.old) (E.faults err.old) steps.old)
         (scene (S.files store.new) (S.asked store.new) (S.heard store.new) (S.faults store.new) (I.left input.new) (I.faults input.new) (O.written out.new) (O.faults out.new) (E.written err.new) (E.faults err.new) steps.new) result }
-    // The outcome by the sources alone, and the cause of each other end.
+    // The outcome by the sources alone, or by the file that is dumped, and the cause of each other end.
     ensures runs { (c : Command) → command_of (words_of words.now) ≡ Some c → Runs c
         (scene (S.files store.old) (S.asked store.old) (S.heard store.old) (S.faults store.old) (I.left input.old) (I.faults input.old) (O.written out.old) (O.faults out.old) (E.written err.old) (E.faults err.old) steps.old)
         (scene (S.files store.new) (S.asked store.new) (S.heard store.new) (S.faults store.new) (I.left input.new) (I.faults input.new) (O.written out.new) (O.faults out.new) (E.written err.new) (E.faults err.new) steps.new) result }
@@ -82,9 +133,12 @@ pub fn run<S: Store, I: Source, O: Sink, E: Sink, L: Ledger>(
         (scene (S.files store.old) (S.asked store.old) (S.heard store.old) (S.faults store.old) (I.left input.old) (I.faults input.old) (O.written out.old) (O.faults out.old) (E.written err.old) (E.faults err.old) steps.old)
         (scene (S.files store.new) (S.asked store.new) (S.heard store.new) (S.faults store.new) (I.left input.new) (I.faults input.new) (O.written out.new) (O.faults out.new) (E.written err.new) (E.faults err.new) steps.new) result }
 {
-    if let Some(path) = build_path(words) {
-        return run_build(alloc, path, &words[2..], store, out, err);
+    match command_of(words) {
+        Some(Invocation::Build(path, queries)) => run_build(alloc, path, queries, store, out, err),
+        Some(Invocation::Dump(path, queries)) => run_dump(alloc, path, queries, store, out, err),
+        None => {
+            say(err, USAGE, b"", b"");
+            Status::Usage
+        }
     }
-    say(err, USAGE, b"", b"");
-    Status::Usage
 }

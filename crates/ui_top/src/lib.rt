@@ -11,6 +11,8 @@ pub use commands::run;
 pub use status::Status;
 
 #[cfg(test)]
+mod dump_tests;
+#[cfg(test)]
 mod forged_tests;
 #[cfg(test)]
 mod layout_tests;

@@ -53,37 +53,6 @@ fn case(
 const A: (&str, &str) = ("a", "package a\n\nconst N = 7\n");
 
 #[test]
-fn an_import_and_the_names_asked(rt: HostRuntime) -> Result<(), Fail> {
-    let alloc = rt.alloc();
-    let text = "package b\n\nimport \"a\"\n\nconst M = a.N + a.N + 1\n";
-    let mut store = store_of(alloc, &[A, ("b", text)])?;
-    let ended = run_words(alloc, &["build", "b", "decl M"], &mut store, 1000)?;
-    compare(&rt, &ended, Status::Ok, "const b.M untyped int = 15\n", "");
-    let wanted = [
-        (AskKind::List, "src/b"),
-        (AskKind::Read, "src/b/b.go"),
-        (AskKind::List, "src/a"),
-        (AskKind::Read, "src/a/a.go"),
-        (AskKind::List, "src/a"),
-        (AskKind::Read, "src/a/a.go"),
-        (AskKind::Write, "unit/a.u"),
-        (AskKind::Write, "lib/a.u"),
-        (AskKind::List, "src/b"),
-        (AskKind::Read, "src/b/b.go"),
-        (AskKind::Read, "lib/a.u"),
-        (AskKind::Write, "unit/b.u"),
-        (AskKind::Write, "lib/b.u"),
-        (AskKind::Read, "lib/b.u"),
-    ];
-    assert_eq!(rt; store.asked().len(), wanted.len());
-    for (asked, (what, name)) in store.asked().iter().zip(wanted) {
-        assert_eq!(rt; asked.what, what);
-        assert_eq!(rt; asked.name.bytes(), name.as_bytes());
-    }
-    Ok(())
-}
-
-#[test]
 fn faults_of_a_package(rt: HostRuntime) -> Result<(), Fail> {
     let alloc = rt.alloc();
     let refused = Status::Refused;

@@ -99,37 +99,6 @@ fn a_constant_is_built_and_answered(rt: HostRuntime) -> Result<(), Fail> {
     Ok(())
 }
 
-// The linked file of `SEVEN`, but for its fingerprint.
-const SEVEN_FILE: &[u8] = b"\x01\0\0\0\0\0\0\0\
-    \x03\0\0\0\x05\0\0\0\x06\0\0\0\x07\0\0\0\x08\0\0\0\x09\0\0\0\x0a\0\0\0\x0b\0\0\0\x0c\0\0\0\x0c\0\0\0\
-    \x01\0\0\0\x0b\0\0\0\x0c\0\0\0\x17\0\0\0\x19\0\0\0\x1e\0\0\0\x23\0\0\0\x2b\0\0\0\x2e\0\0\0\x3c\0\0\0\x3d\0\0\0\x45\0\0\0\
-    asrc/a/a.goN\
-    \x02\x03\0\x06\0\0\0\x01\0\x01\0\0\0\
-    \x01\0\x01\0\x01\
-    \x01\0\0\0\0\
-    \x02\x03\0\0\x02\0\x01\x01\
-    \0\0\x14\
-    \x02\x02\0\x05\0\x01\0\x03\x07\0\x01\0\x02\x0e\
-    \0\
-    \0\0\0\0\0\0\0\0";
-
-#[test]
-fn the_bytes_of_linked_files(rt: HostRuntime) -> Result<(), Fail> {
-    let alloc = rt.alloc();
-    let mut store = store_of(alloc, SEVEN, &[], 0)?;
-    run_words(alloc, &["build", "a"], &mut store, 1000)?;
-    let linked = store.file("lib/a.u").ok_or("no linked file")?;
-    assert!(rt; linked.starts_with(SEVEN_FILE));
-    let mut store = MemStore::new(alloc, Vec::new(alloc), 0);
-    store.put(alloc, "src/e/e.go", b"package e\n")?;
-    let ended = run_words(alloc, &["build", "e"], &mut store, 1000)?;
-    assert_eq!(rt; ended.status, Status::Ok);
-    assert!(rt; ended.out.written().is_empty());
-    let linked = store.file("lib/e.u").ok_or("no linked file")?;
-    assert_eq!(rt; linked.len(), 86);
-    Ok(())
-}
-
 // Builds one source, and compares the status and both texts.
 fn case(
     rt: &(impl Abort + AllocGlobal),

@@ -10,6 +10,7 @@ use Rattle.ui_build.specs.Stops.{state, SettlesStop}
 use Rattle.ui_build.specs.declared.loading.Loaded.{Loaded}
 use Rattle.ui_build.specs.declared.stop.Stop.TheVariants as stop
 use Rattle.ui_build.proofs.Hearing.{heard_none, heard_stop, heard_settled, heard_value, linked_stopped, loads}
+use Rattle.ui_build.proofs.Dumped.{record_stop}
 use Rattle.ui_build.proofs.Steps.{told_none, told_stop, told_settled}
 use Rattle.ui_build.proofs.loading.load.Goals as goal
 
@@ -70,3 +71,8 @@ pub returns-clause-heard : goal.returns-clause-heard
 returns-clause-heard g c =
     let stands : recorded (linked_file c.args.path.now) c.args.path.now (option_map (λ (v : Vec ℕ Global). v.items) c.in_ok-bytes.bytes) ≡ Ok (loaded_of c.in_ok-loaded.loaded) = rw c.in_ok-linked.ensures at c.in_ok-loaded.ensures.settled in
     heard_value (λ (o : Option (Vec ℕ Global)). HasRead (linked_file c.args.path.now, option_map (λ v. v.items) o)) (λ (l : Loaded). Loads c.args.path.now (loaded_of l)) c.in_ok-bytes.bytes c.in_ok-loaded.loaded _ _ _ refl (λ x r. loads c.args.path.now (option_map (λ (v : Vec ℕ Global). v.items) c.in_ok-bytes.bytes) (loaded_of c.in_ok-loaded.loaded) x stands r) (rw (c.in_ok-asked.ensures, c.in_ok-linked.ensures) at c.in_ok-bytes.ensures.heard)
+
+pub returns-in_err-loaded-clause-stop : goal.returns-in_err-loaded-clause-stop
+returns-in_err-loaded-clause-stop g c =
+    let p = err_from_is_err_and c.from_residual-in_err-loaded.result c.from_residual-in_err-loaded.ensures.1 in
+    rw (p.1, p.2) (record_stop (linked_file c.args.path.now) c.args.path.now (option_map (λ (v : Vec ℕ Global). v.items) c.in_ok-bytes.bytes) c.in_err-loaded.field-0.0 (rw c.in_ok-linked.ensures at c.in_err-loaded.ensures.settled))
