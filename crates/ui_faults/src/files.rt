@@ -1,5 +1,7 @@
 //! One faulty text for each place at which a production can break, in two parts: the fault stands where the second begins.
 
+use crate::told::Told::{self, TooDeep, Unexpected};
+use crate::told::{CHAN, DEFER, fault, joined, put_each};
 use std::alloc::Global;
 use std::process::Abort;
 use std::test::Fail;
@@ -8,388 +10,356 @@ use ui_pdecl::parse_file;
 use ui_pexpr::{Form, ParseFault};
 use ui_scan::tokens;
 
-const FILE: &[u8] = b"package p\n";
+const FILE: &str = "package p\n";
 
-const VALUE: &[u8] = b"package p\nvar x = ";
+const VALUE: &str = "package p\nvar x = ";
 
-const BODY: &[u8] = b"package p\nfunc f() { ";
+const BODY: &str = "package p\nfunc f() { ";
 
-type Parts = (&'static [u8], &'static [u8]);
+type Parts = (&'static str, &'static str);
 
-const PACKAGES: [Parts; 7] = [
-    (b"", b""),
-    (b"", b"x"),
-    (b"package ", b""),
-    (b"package ", b"1"),
-    (b"package p ", b"q"),
-    (b"package p", b".q"),
-    (b"// c\npackage p\n", b"}"),
+const PACKAGES: &[Parts] = &[
+    ("", ""),
+    ("", "x"),
+    ("package ", ""),
+    ("package ", "1"),
+    ("package p ", "q"),
+    ("package p", ".q"),
+    ("// c\npackage p\n", "}"),
 ];
 
-const IMPORTS: [Parts; 13] = [
-    (b"import ", b""),
-    (b"import ", b"1"),
-    (b"import x ", b"y"),
-    (b"import x", b"\n\"a\""),
-    (b"import \"a\" ", b"\"b\""),
-    (b"import \"a\"", b", \"b\""),
-    (b"import (", b""),
-    (b"import ( ", b"; \"a\" )"),
-    (b"import ( x ", b")"),
-    (b"import ( \"a\" ", b"\"b\" )"),
-    (b"import ( \"a\"; ", b"; )"),
-    (b"import ( \"a\" )", b"( \"b\" )"),
-    (b"var x int\n", b"import \"a\""),
+const IMPORTS: &[Parts] = &[
+    ("import ", ""),
+    ("import ", "1"),
+    ("import x ", "y"),
+    ("import x", "\n\"a\""),
+    ("import \"a\" ", "\"b\""),
+    ("import \"a\"", ", \"b\""),
+    ("import (", ""),
+    ("import ( ", "; \"a\" )"),
+    ("import ( x ", ")"),
+    ("import ( \"a\" ", "\"b\" )"),
+    ("import ( \"a\"; ", "; )"),
+    ("import ( \"a\" )", "( \"b\" )"),
+    ("var x int\n", "import \"a\""),
 ];
 
-const COMMONS: [Parts; 22] = [
-    (b"const ", b""),
-    (b"const ", b"1"),
-    (b"const a ", b"+ 1"),
-    (b"const a, ", b"= 1"),
-    (b"const a int", b""),
-    (b"const a int", b"\nvar x int"),
-    (b"const a = ", b""),
-    (b"const a = 1,", b""),
-    (b"const a = 1 ", b"2"),
-    (b"const ( ", b"= 1 )"),
-    (b"const ( a = 1 ", b"b )"),
-    (b"const ( a = 1; ", b"; )"),
-    (b"const ( a", b""),
-    (b"var ", b"= 1"),
-    (b"var x", b""),
-    (b"var x", b"\n"),
-    (b"var x, y", b"; z int"),
-    (b"var x int ", b"int"),
-    (b"var x int", b", y int"),
-    (b"var x int = ", b";"),
-    (b"var x = \n", b""),
-    (b"var ( x int ", b"y int )"),
+const COMMONS: &[Parts] = &[
+    ("const ", ""),
+    ("const ", "1"),
+    ("const a ", "+ 1"),
+    ("const a, ", "= 1"),
+    ("const a int", ""),
+    ("const a int", "\nvar x int"),
+    ("const a = ", ""),
+    ("const a = 1,", ""),
+    ("const a = 1 ", "2"),
+    ("const ( ", "= 1 )"),
+    ("const ( a = 1 ", "b )"),
+    ("const ( a = 1; ", "; )"),
+    ("const ( a", ""),
+    ("var ", "= 1"),
+    ("var x", ""),
+    ("var x", "\n"),
+    ("var x, y", "; z int"),
+    ("var x int ", "int"),
+    ("var x int", ", y int"),
+    ("var x int = ", ";"),
+    ("var x = \n", ""),
+    ("var ( x int ", "y int )"),
 ];
 
-const TYPES: [Parts; 44] = [
-    (b"type ", b"= int"),
-    (b"type T", b""),
-    (b"type T = ", b""),
-    (b"type T ", b"1"),
-    (b"type ( T int ", b"U int )"),
-    (b"type T *", b""),
-    (b"type T (int", b""),
-    (b"type T (", b")"),
-    (b"type T p.", b"(int)"),
-    (b"type T U[", b"]"),
-    (b"type T U[int ", b"int]"),
-    (b"type T U[int, ", b", int]"),
-    (b"type T [", b""),
-    (b"type T [3 ", b"4]int"),
-    (b"type T [3]", b""),
-    (b"type T []", b""),
-    (b"type T [3]int ", b"int"),
-    (b"type T map ", b"int"),
-    (b"type T map[", b"]int"),
-    (b"type T map[int", b""),
-    (b"type T map[int]", b""),
-    (b"type T func ", b"int"),
-    (b"type T func(", b", a int)"),
-    (b"type T func(a int, int", b")"),
-    (b"type T func([]int, a ", b"int)"),
-    (b"type T func(int int ", b"int)"),
-    (b"type T func() (int ", b";"),
-    (b"type T struct ", b"int"),
-    (b"type T struct { ", b"*U }"),
-    (b"type T struct { a ", b"}"),
-    (b"type T struct { a, ", b"}"),
-    (b"type T struct { a int ", b"b int }"),
-    (b"type T interface ", b"m()"),
-    (b"type T interface { ", b"1 }"),
-    (b"type T interface { m() n", b"() }"),
-    (b"type T interface { int | ", b"}"),
-    (b"type T interface { ~", b"}"),
-    (b"type T[P, ", b"]int"),
-    (b"type T[P any ", b"Q any]int"),
-    (b"type T[P ~", b"]int"),
-    (b"type T[P int|", b"]int"),
-    (b"type T[P any", b""),
-    (b"type T[P any]", b""),
-    (b"type T[N * P", b"}"),
+const TYPES: &[Parts] = &[
+    ("type ", "= int"),
+    ("type T", ""),
+    ("type T = ", ""),
+    ("type T ", "1"),
+    ("type ( T int ", "U int )"),
+    ("type T *", ""),
+    ("type T (int", ""),
+    ("type T (", ")"),
+    ("type T p.", "(int)"),
+    ("type T U[", "]"),
+    ("type T U[int ", "int]"),
+    ("type T U[int, ", ", int]"),
+    ("type T [", ""),
+    ("type T [3 ", "4]int"),
+    ("type T [3]", ""),
+    ("type T []", ""),
+    ("type T [3]int ", "int"),
+    ("type T map ", "int"),
+    ("type T map[", "]int"),
+    ("type T map[int", ""),
+    ("type T map[int]", ""),
+    ("type T func ", "int"),
+    ("type T func(", ", a int)"),
+    ("type T func(a int, int", ")"),
+    ("type T func([]int, a ", "int)"),
+    ("type T func(int int ", "int)"),
+    ("type T func() (int ", ";"),
+    ("type T struct ", "int"),
+    ("type T struct { ", "*U }"),
+    ("type T struct { a ", "}"),
+    ("type T struct { a, ", "}"),
+    ("type T struct { a int ", "b int }"),
+    ("type T interface ", "m()"),
+    ("type T interface { ", "1 }"),
+    ("type T interface { m() n", "() }"),
+    ("type T interface { int | ", "}"),
+    ("type T interface { ~", "}"),
+    ("type T[P, ", "]int"),
+    ("type T[P any ", "Q any]int"),
+    ("type T[P ~", "]int"),
+    ("type T[P int|", "]int"),
+    ("type T[P any", ""),
+    ("type T[P any]", ""),
+    ("type T[N * P", "}"),
 ];
 
-const FUNCTIONS: [Parts; 30] = [
-    (b"func ", b"1"),
-    (b"func f", b""),
-    (b"func f[", b"]() {}"),
-    (b"func f[P", b"]() {}"),
-    (b"func f[P any", b""),
-    (b"func f(", b""),
-    (b"func f(a", b""),
-    (b"func f(a int ", b"b int) {}"),
-    (b"func f()", b""),
-    (b"func f() int", b""),
-    (b"func f() ", b"1 {}"),
-    (b"func f() (int ", b"{}"),
-    (b"func f() (a int, b", b") {}"),
-    (b"func f() {", b""),
-    (b"func f() { // c\n", b""),
-    (b"func f() {} ", b"var x int"),
-    (b"func f() {", b")"),
-    (b"func (", b") m() {}"),
-    (b"func (", b"1) m() {}"),
-    (b"func (t", b""),
-    (b"func (t [", b"]T) m() {}"),
-    (b"func (t *", b") m() {}"),
-    (b"func (t *T", b", u T) m() {}"),
-    (b"func (t T[A", b".B]) m() {}"),
-    (b"func (t T[A, ", b"]) m() {}"),
-    (b"func (t p", b".T) m() {}"),
-    (b"func (t T) ", b"() {}"),
-    (b"func (t T) m ", b"{}"),
-    (b"func (t T) m", b"[P any]() {}"),
-    (b"func (t T ", b"u) m() {}"),
+const FUNCTIONS: &[Parts] = &[
+    ("func ", "1"),
+    ("func f", ""),
+    ("func f[", "]() {}"),
+    ("func f[P", "]() {}"),
+    ("func f[P any", ""),
+    ("func f(", ""),
+    ("func f(a", ""),
+    ("func f(a int ", "b int) {}"),
+    ("func f()", ""),
+    ("func f() int", ""),
+    ("func f() ", "1 {}"),
+    ("func f() (int ", "{}"),
+    ("func f() (a int, b", ") {}"),
+    ("func f() {", ""),
+    ("func f() { // c\n", ""),
+    ("func f() {} ", "var x int"),
+    ("func f() {", ")"),
+    ("func (", ") m() {}"),
+    ("func (", "1) m() {}"),
+    ("func (t", ""),
+    ("func (t [", "]T) m() {}"),
+    ("func (t *", ") m() {}"),
+    ("func (t *T", ", u T) m() {}"),
+    ("func (t T[A", ".B]) m() {}"),
+    ("func (t T[A, ", "]) m() {}"),
+    ("func (t p", ".T) m() {}"),
+    ("func (t T) ", "() {}"),
+    ("func (t T) m ", "{}"),
+    ("func (t T) m", "[P any]() {}"),
+    ("func (t T ", "u) m() {}"),
 ];
 
-const VALUES: [Parts; 47] = [
-    (b"", b")"),
-    (b"(", b")"),
-    (b"(a", b""),
-    (b"(a ", b"b)"),
-    (b"-", b""),
-    (b"a + ", b""),
-    (b"a + ", b"/ b"),
-    (b"a ", b"b"),
-    (b"a ", b"= b"),
-    (b"a ", b":= b"),
-    (b"a", b"++"),
-    (b"a.", b""),
-    (b"a.", b")"),
-    (b"a.(", b")"),
-    (b"a.(T", b""),
-    (b"f(", b""),
-    (b"f(", b", a)"),
-    (b"f(a", b""),
-    (b"f(a ", b"b)"),
-    (b"f(a, ", b", b)"),
-    (b"f(a..., ", b"b)"),
-    (b"f([]int ", b"int)"),
-    (b"a[", b"]"),
-    (b"a[1", b""),
-    (b"a[b ", b"c]"),
-    (b"a[b, c", b": d]"),
-    (b"a[:", b": 3]"),
-    (b"a[1:2:", b"]"),
-    (b"a[1:2:3", b": 4]"),
-    (b"T{", b""),
-    (b"T{", b", a}"),
-    (b"T{a ", b"b}"),
-    (b"T{a: ", b"}"),
-    (b"T{a: b", b": c}"),
-    (b"T{a, ", b", b}"),
-    (b"[]int", b""),
-    (b"[]int ", b"x"),
-    (b"[]int{1}", b"{2}"),
-    (b"[...]", b""),
-    (b"[3 ", b"4]int{}"),
-    (b"map[string]int ", b"+ 1"),
-    (b"struct { a int } ", b"+ 1"),
-    (b"interface {} ", b"{}"),
-    (b"func() ", b"{}"),
-    (b"[]int(a, ", b"b)"),
-    (b"!a <= ", b"<= b"),
-    (b"a, ", b", b"),
+const VALUES: &[Parts] = &[
+    ("", ")"),
+    ("(", ")"),
+    ("(a", ""),
+    ("(a ", "b)"),
+    ("-", ""),
+    ("a + ", ""),
+    ("a + ", "/ b"),
+    ("a ", "b"),
+    ("a ", "= b"),
+    ("a ", ":= b"),
+    ("a", "++"),
+    ("a.", ""),
+    ("a.", ")"),
+    ("a.(", ")"),
+    ("a.(T", ""),
+    ("f(", ""),
+    ("f(", ", a)"),
+    ("f(a", ""),
+    ("f(a ", "b)"),
+    ("f(a, ", ", b)"),
+    ("f(a..., ", "b)"),
+    ("f([]int ", "int)"),
+    ("a[", "]"),
+    ("a[1", ""),
+    ("a[b ", "c]"),
+    ("a[b, c", ": d]"),
+    ("a[:", ": 3]"),
+    ("a[1:2:", "]"),
+    ("a[1:2:3", ": 4]"),
+    ("T{", ""),
+    ("T{", ", a}"),
+    ("T{a ", "b}"),
+    ("T{a: ", "}"),
+    ("T{a: b", ": c}"),
+    ("T{a, ", ", b}"),
+    ("[]int", ""),
+    ("[]int ", "x"),
+    ("[]int{1}", "{2}"),
+    ("[...]", ""),
+    ("[3 ", "4]int{}"),
+    ("map[string]int ", "+ 1"),
+    ("struct { a int } ", "+ 1"),
+    ("interface {} ", "{}"),
+    ("func() ", "{}"),
+    ("[]int(a, ", "b)"),
+    ("!a <= ", "<= b"),
+    ("a, ", ", b"),
 ];
 
-const STATEMENTS: [Parts; 68] = [
-    (b"", b")"),
-    (b"", b"else { } }"),
-    (b"", b"case a: }"),
-    (b"", b"package q }"),
-    (b"", b"import \"a\" }"),
-    (b"", b": a }"),
-    (b"} ", b"}"),
-    (b"{ ", b""),
-    (b"{ a } ", b"b }"),
-    (b"; ; ", b") }"),
-    (b"var x int ", b"y }"),
-    (b"const ", b"}"),
-    (b"a ", b"b }"),
-    (b"a", b": b }"),
-    (b"a = ", b"}"),
-    (b"a, b ", b"}"),
-    (b"a, ", b"= 1 }"),
-    (b"a, b ", b"+= 1 }"),
-    (b"a += ", b"}"),
-    (b"a += b", b", c }"),
-    (b"a++ ", b"b }"),
-    (b"a, b", b"-- }"),
-    (b"1 ", b":= a }"),
-    (b"a.b ", b":= 1 }"),
-    (b"a, b.c ", b":= 1 }"),
-    (b"a := ", b"}"),
-    (b"return ", b", a }"),
-    (b"return a, ", b"}"),
-    (b"return a ", b"b }"),
-    (b"break ", b"a }"),
-    (b"continue ", b"a }"),
-    (b"if ", b"{ } }"),
-    (b"if ", b"var x int; x { } }"),
-    (b"if a ", b"}"),
-    (b"if a\n", b"{ } }"),
-    (b"if a; ", b"{ } }"),
-    (b"if a = b ", b"{ } }"),
-    (b"if a := b; c", b"; d { } }"),
-    (b"if x == T{1} ", b"{ } }"),
-    (b"if a { } ", b"b }"),
-    (b"if a { } else ", b"b }"),
-    (b"if a { } else", b""),
-    (b"if a { } else if ", b"{ } }"),
-    (b"if a { }\n", b"else { } }"),
-    (b"for ", b"}"),
-    (b"for a ", b"}"),
-    (b"for a; ", b"{ } }"),
-    (b"for a; b ", b"{ } }"),
-    (b"for a; b; c", b""),
-    (b"for a; b; ", b"var c int { } }"),
-    (b"for a := 1 ", b"{ } }"),
-    (b"for a, 1 := ", b"b; ; { } }"),
-    (b"for a = range ", b"{ } }"),
-    (b"for range ", b"{ } }"),
-    (b"for a := b, ", b"range c { } }"),
-    (b"for a; ; b := ", b"range c { } }"),
-    (b"for a += ", b"range c { } }"),
-    (b"switch ", b"}"),
-    (b"switch a ", b"}"),
-    (b"switch a ", b"b { } }"),
-    (b"switch a = b ", b"{ } }"),
-    (b"switch a; b", b"; c { } }"),
-    (b"switch a {", b""),
-    (b"switch a { ", b"b }"),
-    (b"switch a { case ", b": }"),
-    (b"switch a { case b ", b"c }"),
-    (b"switch a { default ", b"}"),
-    (b"switch a { case b: c ", b"d }"),
+const STATEMENTS: &[Parts] = &[
+    ("", ")"),
+    ("", "else { } }"),
+    ("", "case a: }"),
+    ("", "package q }"),
+    ("", "import \"a\" }"),
+    ("", ": a }"),
+    ("} ", "}"),
+    ("{ ", ""),
+    ("{ a } ", "b }"),
+    ("; ; ", ") }"),
+    ("var x int ", "y }"),
+    ("const ", "}"),
+    ("a ", "b }"),
+    ("a", ": b }"),
+    ("a = ", "}"),
+    ("a, b ", "}"),
+    ("a, ", "= 1 }"),
+    ("a, b ", "+= 1 }"),
+    ("a += ", "}"),
+    ("a += b", ", c }"),
+    ("a++ ", "b }"),
+    ("a, b", "-- }"),
+    ("1 ", ":= a }"),
+    ("a.b ", ":= 1 }"),
+    ("a, b.c ", ":= 1 }"),
+    ("a := ", "}"),
+    ("return ", ", a }"),
+    ("return a, ", "}"),
+    ("return a ", "b }"),
+    ("break ", "a }"),
+    ("continue ", "a }"),
+    ("if ", "{ } }"),
+    ("if ", "var x int; x { } }"),
+    ("if a ", "}"),
+    ("if a\n", "{ } }"),
+    ("if a; ", "{ } }"),
+    ("if a = b ", "{ } }"),
+    ("if a := b; c", "; d { } }"),
+    ("if x == T{1} ", "{ } }"),
+    ("if a { } ", "b }"),
+    ("if a { } else ", "b }"),
+    ("if a { } else", ""),
+    ("if a { } else if ", "{ } }"),
+    ("if a { }\n", "else { } }"),
+    ("for ", "}"),
+    ("for a ", "}"),
+    ("for a; ", "{ } }"),
+    ("for a; b ", "{ } }"),
+    ("for a; b; c", ""),
+    ("for a; b; ", "var c int { } }"),
+    ("for a := 1 ", "{ } }"),
+    ("for a, 1 := ", "b; ; { } }"),
+    ("for a = range ", "{ } }"),
+    ("for range ", "{ } }"),
+    ("for a := b, ", "range c { } }"),
+    ("for a; ; b := ", "range c { } }"),
+    ("for a += ", "range c { } }"),
+    ("switch ", "}"),
+    ("switch a ", "}"),
+    ("switch a ", "b { } }"),
+    ("switch a = b ", "{ } }"),
+    ("switch a; b", "; c { } }"),
+    ("switch a {", ""),
+    ("switch a { ", "b }"),
+    ("switch a { case ", ": }"),
+    ("switch a { case b ", "c }"),
+    ("switch a { default ", "}"),
+    ("switch a { case b: c ", "d }"),
 ];
 
 // A `.`, a string and a `=` elsewhere than where they begin a form outside.
-const PLACED: [Parts; 13] = [
-    (b"type ( ", b". )"),
-    (b"const ( a; ", b". )"),
-    (b"import \"a\"; ", b". \"b\""),
-    (b"import ( \"a\" ", b". \"b\" )"),
-    (b"func f(a int ", b"\"t\") {}"),
-    (b"var x int ", b"\"t\""),
-    (b"type T struct { a func(b int ", b"\"t\") }"),
-    (b"type T interface { m() int ", b"\"t\" }"),
-    (b"func f[P any] ", b"= 1"),
-    (b"type T[P any] int ", b"= int"),
-    (b"type T U[int] ", b"= int"),
-    (b"type T [3] ", b"= int"),
-    (b"type T [N * P] ", b"= int"),
+const PLACED: &[Parts] = &[
+    ("type ( ", ". )"),
+    ("const ( a; ", ". )"),
+    ("import \"a\"; ", ". \"b\""),
+    ("import ( \"a\" ", ". \"b\" )"),
+    ("func f(a int ", "\"t\") {}"),
+    ("var x int ", "\"t\""),
+    ("type T struct { a func(b int ", "\"t\") }"),
+    ("type T interface { m() int ", "\"t\" }"),
+    ("func f[P any] ", "= 1"),
+    ("type T[P any] int ", "= int"),
+    ("type T U[int] ", "= int"),
+    ("type T [3] ", "= int"),
+    ("type T [N * P] ", "= int"),
 ];
 
 // Of the ten words that are outside wherever they are at fault: behind another fault, or where they are taken.
-const BEHIND_A_FAULT: [Parts; 13] = [
-    (b"var x", b": chan int"),
-    (b"func f() { a ", b"b; defer g() }"),
-    (b"func f() { switch a { ", b"b: fallthrough } }"),
-    (b"var x func() int ", b"int; func f() { }"),
-    (b"func f() { x := ", b"; go g() }"),
-    (b"func f() { for a ", b"b { goto c } }"),
-    (b"func f() { for ", b"} select { }"),
-    (b"type ", b"; type T int"),
-    (b"func f() { g(", b", <-c) }"),
-    (b"func f(a int", b"; b ...int) { }"),
-    (b"func f() { x := func() ", b"{ } }"),
-    (b"type T int; type U ", b"; var x int"),
-    (b"var x = f(a... ", b"b)"),
+const BEHIND_A_FAULT: &[Parts] = &[
+    ("var x", ": chan int"),
+    ("func f() { a ", "b; defer g() }"),
+    ("func f() { switch a { ", "b: fallthrough } }"),
+    ("var x func() int ", "int; func f() { }"),
+    ("func f() { x := ", "; go g() }"),
+    ("func f() { for a ", "b { goto c } }"),
+    ("func f() { for ", "} select { }"),
+    ("type ", "; type T int"),
+    ("func f() { g(", ", <-c) }"),
+    ("func f(a int", "; b ...int) { }"),
+    ("func f() { x := func() ", "{ } }"),
+    ("type T int; type U ", "; var x int"),
+    ("var x = f(a... ", "b)"),
 ];
 
-const OUTSIDE: [(Form, &[u8], &[u8]); 26] = [
-    (Form::Chan, b"", b"chan int"),
-    (Form::Chan, b"type T struct { a ", b"chan int }"),
-    (Form::Defer, b"", b"defer f()"),
+const OUTSIDE: &[(Form, &str, &str)] = &[
+    (Form::Chan, "", "chan int"),
+    (Form::Chan, "type T struct { a ", "chan int }"),
+    (Form::Defer, "", "defer f()"),
     (
         Form::Fallthrough,
-        b"func f() { switch a { case b: ",
-        b"fallthrough } }",
+        "func f() { switch a { case b: ",
+        "fallthrough } }",
     ),
-    (Form::Func, b"import ", b"func"),
-    (Form::Func, b"func f() { } ", b"func g() { }"),
-    (Form::Go, b"func f() { if a { } else ", b"go g() }"),
-    (Form::Goto, b"", b"goto a"),
-    (Form::Select, b"func f() { for ", b"select { } }"),
-    (Form::Type, b"type T int ", b"type U int"),
-    (Form::Type, b"func f() { if a { ", b"type T int } }"),
-    (Form::Arrow, b"func f() { c ", b"<- 1 }"),
-    (Form::Arrow, b"func f() { x := f(a, ", b"<-c) }"),
-    (Form::Ellipsis, b"type T [", b"...]int"),
-    (Form::Ellipsis, b"var x = f(", b"...)"),
-    (Form::DotImport, b"import ( \"a\"\n", b". \"b\" )"),
-    (Form::DotImport, b"import ( \"a\" )\nimport ", b". \"b\""),
-    (Form::Tag, b"type T struct { a int ", b"\"t\" }"),
+    (Form::Func, "import ", "func"),
+    (Form::Func, "func f() { } ", "func g() { }"),
+    (Form::Go, "func f() { if a { } else ", "go g() }"),
+    (Form::Goto, "", "goto a"),
+    (Form::Select, "func f() { for ", "select { } }"),
+    (Form::Type, "type T int ", "type U int"),
+    (Form::Type, "func f() { if a { ", "type T int } }"),
+    (Form::Arrow, "func f() { c ", "<- 1 }"),
+    (Form::Arrow, "func f() { x := f(a, ", "<-c) }"),
+    (Form::Ellipsis, "type T [", "...]int"),
+    (Form::Ellipsis, "var x = f(", "...)"),
+    (Form::DotImport, "import ( \"a\"\n", ". \"b\" )"),
+    (Form::DotImport, "import ( \"a\" )\nimport ", ". \"b\""),
+    (Form::Tag, "type T struct { a int ", "\"t\" }"),
     (
         Form::Tag,
-        b"type T struct { a int\nb, c p.U[int] ",
-        b"\"t\" }",
+        "type T struct { a int\nb, c p.U[int] ",
+        "\"t\" }",
     ),
-    (Form::Tag, b"type T struct { a struct { b int } ", b"`t` }"),
+    (Form::Tag, "type T struct { a struct { b int } ", "`t` }"),
+    (Form::Tag, "func f(a struct { b func() int ", "\"t\" }) { }"),
     (
         Form::Tag,
-        b"func f(a struct { b func() int ",
-        b"\"t\" }) { }",
+        "func f() { x := struct { a [3]int ",
+        "\"t\" }{} }",
     ),
-    (
-        Form::Tag,
-        b"func f() { x := struct { a [3]int ",
-        b"\"t\" }{} }",
-    ),
-    (Form::GenericAlias, b"type T[P any] ", b"= int"),
-    (Form::GenericAlias, b"type T[N * P,] ", b"= int"),
+    (Form::GenericAlias, "type T[P any] ", "= int"),
+    (Form::GenericAlias, "type T[N * P,] ", "= int"),
     (
         Form::GenericAlias,
-        b"type ( T[P ~int | string, Q any,] ",
-        b"= int )",
+        "type ( T[P ~int | string, Q any,] ",
+        "= int )",
     ),
-    (Form::GenericAlias, b"type ( A int; T[P []int] ", b"= int )"),
+    (Form::GenericAlias, "type ( A int; T[P []int] ", "= int )"),
 ];
 
-#[derive(Clone, Copy)]
-enum Told {
-    Unexpected,
-    TooDeep,
-    Outside(Form),
-}
-
-fn fault(told: Told, at: usize) -> ParseFault {
-    match told {
-        Told::Unexpected => ParseFault::Unexpected { at },
-        Told::TooDeep => ParseFault::TooDeep { at },
-        Told::Outside(form) => ParseFault::Outside { at, form },
-    }
-}
-
 // The fault of a text, or none where it is a file.
-fn fault_of(alloc: Global, text: &[u8]) -> Result<Option<ParseFault>, NoMemory> {
-    if text.len() >= 10_000 {
-        return Ok(Some(ParseFault::NoMemory));
-    }
-    let Ok(found) = tokens(alloc, text) else {
-        return Ok(Some(ParseFault::NoMemory));
-    };
-    if found.len() >= 10_000 {
-        return Ok(Some(ParseFault::NoMemory));
-    }
+fn fault_of(rt: &impl Abort, alloc: Global, text: &[u8]) -> Result<Option<ParseFault>, Fail> {
+    assert!(rt; text.len() < 10000);
+    let found = tokens(alloc, text)?;
+    assert!(rt; found.len() < 10000);
     let file = Text::from_slice(alloc, b"p.go")?;
     let own = Text::from_slice(alloc, b"own/p")?;
     match parse_file(alloc, text, found.as_slice(), &file, &own) {
         Ok(_) => Ok(None),
         Err(fault) => Ok(Some(fault)),
     }
-}
-
-fn put_each(out: &mut Vec<u8>, part: &[u8], count: usize) -> Result<(), NoMemory> {
-    for _ in 0..count {
-        out.extend_from_slice(part)?;
-    }
-    Ok(())
 }
 
 // The fault stands where the last part of the text begins.
@@ -402,43 +372,45 @@ fn expect_between(
 ) -> Result<(), Fail> {
     let at = text.len();
     text.extend_from_slice(behind)?;
-    assert_eq!(rt; fault_of(alloc, text.as_slice())?, Some(fault(told, at)));
+    assert_eq!(rt;
+        fault_of(rt, alloc, text.as_slice())?,
+        Some(fault(told, at))
+    );
     Ok(())
 }
 
 fn expect_unexpected(
     rt: &impl Abort,
     alloc: Global,
-    front: &[u8],
+    front: &str,
     texts: &[Parts],
 ) -> Result<(), Fail> {
     for (before, behind) in texts {
-        let mut text = Vec::from_slice(alloc, front)?;
-        text.extend_from_slice(before)?;
-        expect_between(rt, alloc, text, behind, Told::Unexpected)?;
+        let text = joined(alloc, &[front, before])?;
+        expect_between(rt, alloc, text, behind.as_bytes(), Unexpected)?;
     }
     Ok(())
 }
 
 #[test]
 fn each_place(rt: HostRuntime) -> Result<(), Fail> {
-    expect_unexpected(&rt, rt.alloc(), b"", PACKAGES.as_slice())?;
-    expect_unexpected(&rt, rt.alloc(), FILE, IMPORTS.as_slice())?;
-    expect_unexpected(&rt, rt.alloc(), FILE, COMMONS.as_slice())?;
-    expect_unexpected(&rt, rt.alloc(), FILE, TYPES.as_slice())?;
-    expect_unexpected(&rt, rt.alloc(), FILE, FUNCTIONS.as_slice())?;
-    expect_unexpected(&rt, rt.alloc(), VALUE, VALUES.as_slice())?;
-    expect_unexpected(&rt, rt.alloc(), BODY, STATEMENTS.as_slice())?;
-    expect_unexpected(&rt, rt.alloc(), FILE, PLACED.as_slice())?;
-    expect_unexpected(&rt, rt.alloc(), FILE, BEHIND_A_FAULT.as_slice())
+    expect_unexpected(&rt, rt.alloc(), "", PACKAGES)?;
+    expect_unexpected(&rt, rt.alloc(), FILE, IMPORTS)?;
+    expect_unexpected(&rt, rt.alloc(), FILE, COMMONS)?;
+    expect_unexpected(&rt, rt.alloc(), FILE, TYPES)?;
+    expect_unexpected(&rt, rt.alloc(), FILE, FUNCTIONS)?;
+    expect_unexpected(&rt, rt.alloc(), VALUE, VALUES)?;
+    expect_unexpected(&rt, rt.alloc(), BODY, STATEMENTS)?;
+    expect_unexpected(&rt, rt.alloc(), FILE, PLACED)?;
+    expect_unexpected(&rt, rt.alloc(), FILE, BEHIND_A_FAULT)
 }
 
 #[test]
 fn each_form(rt: HostRuntime) -> Result<(), Fail> {
     for (form, before, behind) in OUTSIDE {
-        let mut text = Vec::from_slice(rt.alloc(), FILE)?;
-        text.extend_from_slice(before)?;
-        expect_between(&rt, rt.alloc(), text, behind, Told::Outside(form))?;
+        let text = joined(rt.alloc(), &[FILE, before])?;
+        let told = Told::Outside(*form);
+        expect_between(&rt, rt.alloc(), text, behind.as_bytes(), told)?;
     }
     Ok(())
 }
@@ -446,57 +418,44 @@ fn each_form(rt: HostRuntime) -> Result<(), Fail> {
 // ---- depth
 
 // What begins a text; what follows so many times, in two parts; what is enclosed, and what closes each.
-type Nest = (&'static [u8], Parts, usize, &'static [u8], &'static [u8]);
+type Nest = (&'static str, Parts, usize, &'static str, &'static str);
 
 // One time more is too deep where the second part begins.
-const AT_THE_LIMIT: [Nest; 11] = [
-    (b"var x = ", (b"", b"("), 199, b"a", b")"),
-    (b"type T ", (b"", b"*"), 199, b"int", b""),
-    (b"type T ", (b"", b"[]"), 199, b"int", b""),
-    (b"var x ", (b"", b"func("), 200, b"", b")"),
-    (b"var x = T", (b"", b"{"), 199, b"", b"}"),
-    (b"func f() {", (b"", b"{"), 200, b"}", b"}"),
-    (b"func f() {", (b"", b"if a {"), 199, b"}", b"}"),
-    (b"func f() { ", (b"", b"if a { } else "), 199, b"{ } }", b""),
-    (b"var x = ", (b"a ", b"+ "), 199, b"a", b""),
-    (b"var x = ", (b"f", b"["), 199, b"a", b"]"),
-    (b"var x = ", (b"([]T{f", b"("), 49, b"!!!a", b")})"),
+const AT_THE_LIMIT: &[Nest] = &[
+    ("var x = ", ("", "("), 199, "a", ")"),
+    ("type T ", ("", "*"), 199, "int", ""),
+    ("type T ", ("", "[]"), 199, "int", ""),
+    ("var x ", ("", "func("), 200, "", ")"),
+    ("var x = T", ("", "{"), 199, "", "}"),
+    ("func f() {", ("", "{"), 200, "}", "}"),
+    ("func f() {", ("", "if a {"), 199, "}", "}"),
+    ("func f() { ", ("", "if a { } else "), 199, "{ } }", ""),
+    ("var x = ", ("a ", "+ "), 199, "a", ""),
+    ("var x = ", ("f", "["), 199, "a", "]"),
+    ("var x = ", ("([]T{f", "("), 49, "!!!a", ")})"),
 ];
 
 // What begins a text, what follows so many times, and what stands before and behind the fault. The same again follows.
-const DEEP: [(Told, &[u8], &[u8], usize, Parts); 12] = [
-    (Told::TooDeep, b"var x = ", b"(", 199, (b"", b"func(")),
-    (Told::TooDeep, b"var x = ", b"([]T{f(", 49, (b"!!!", b"!a")),
-    (
-        Told::Outside(Form::Chan),
-        b"var x = ",
-        b"(",
-        199,
-        (b"", b"chan "),
-    ),
-    (
-        Told::Outside(Form::Defer),
-        b"func f() {",
-        b"{",
-        200,
-        (b"", b"defer f()"),
-    ),
-    (Told::Unexpected, b"var x = ", b"(", 199, (b"", b")")),
-    (Told::Unexpected, b"var x = ", b"(", 150, (b"", b")")),
-    (Told::Unexpected, b"var x = ", b"(", 150, (b"a", b"}")),
-    (Told::Unexpected, b"type T ", b"*", 199, (b"", b")")),
-    (Told::Unexpected, b"func f() {", b"{", 200, (b"", b"]")),
-    (Told::Unexpected, b"func f() {", b"{", 150, (b"", b"else ")),
-    (Told::Unexpected, b"var x = ", b"a + ", 199, (b"a ", b"a ")),
-    (Told::Unexpected, b"var x = T", b"{", 150, (b"", b": ")),
+const DEEP: &[(Told, &str, &str, usize, Parts)] = &[
+    (TooDeep, "var x = ", "(", 199, ("", "func(")),
+    (TooDeep, "var x = ", "([]T{f(", 49, ("!!!", "!a")),
+    (CHAN, "var x = ", "(", 199, ("", "chan ")),
+    (DEFER, "func f() {", "{", 200, ("", "defer f()")),
+    (Unexpected, "var x = ", "(", 199, ("", ")")),
+    (Unexpected, "var x = ", "(", 150, ("", ")")),
+    (Unexpected, "var x = ", "(", 150, ("a", "}")),
+    (Unexpected, "type T ", "*", 199, ("", ")")),
+    (Unexpected, "func f() {", "{", 200, ("", "]")),
+    (Unexpected, "func f() {", "{", 150, ("", "else ")),
+    (Unexpected, "var x = ", "a + ", 199, ("a ", "a ")),
+    (Unexpected, "var x = T", "{", 150, ("", ": ")),
 ];
 
-fn nested(alloc: Global, front: &[u8], part: Parts, count: usize) -> Result<Vec<u8>, NoMemory> {
-    let mut text = Vec::from_slice(alloc, FILE)?;
-    text.extend_from_slice(front)?;
+fn nested(alloc: Global, front: &str, part: Parts, count: usize) -> Result<Vec<u8>, NoMemory> {
+    let mut text = joined(alloc, &[FILE, front])?;
     for _ in 0..count {
-        text.extend_from_slice(part.0)?;
-        text.extend_from_slice(part.1)?;
+        text.extend_from_slice(part.0.as_bytes())?;
+        text.extend_from_slice(part.1.as_bytes())?;
     }
     Ok(text)
 }
@@ -504,10 +463,10 @@ fn nested(alloc: Global, front: &[u8], part: Parts, count: usize) -> Result<Vec<
 #[test]
 fn as_deep_as_may_be(rt: HostRuntime) -> Result<(), Fail> {
     for (front, part, count, middle, close) in AT_THE_LIMIT {
-        let mut text = nested(rt.alloc(), front, part, count)?;
-        text.extend_from_slice(middle)?;
-        put_each(&mut text, close, count)?;
-        assert_eq!(rt; fault_of(rt.alloc(), text.as_slice())?, None);
+        let mut text = nested(rt.alloc(), front, *part, *count)?;
+        put_each(&mut text, middle, 1)?;
+        put_each(&mut text, close, *count)?;
+        assert_eq!(rt; fault_of(&rt, rt.alloc(), text.as_slice())?, None);
     }
     Ok(())
 }
@@ -515,13 +474,11 @@ fn as_deep_as_may_be(rt: HostRuntime) -> Result<(), Fail> {
 #[test]
 fn one_level_more(rt: HostRuntime) -> Result<(), Fail> {
     for (front, part, count, middle, close) in AT_THE_LIMIT {
-        let mut text = nested(rt.alloc(), front, part, count)?;
-        text.extend_from_slice(part.0)?;
-        let mut behind = Vec::from_slice(rt.alloc(), part.1)?;
-        behind.extend_from_slice(middle)?;
-        put_each(&mut behind, close, count)?;
-        behind.extend_from_slice(close)?;
-        expect_between(&rt, rt.alloc(), text, behind.as_slice(), Told::TooDeep)?;
+        let mut text = nested(rt.alloc(), front, *part, *count)?;
+        put_each(&mut text, part.0, 1)?;
+        let mut behind = joined(rt.alloc(), &[part.1, middle, close])?;
+        put_each(&mut behind, close, *count)?;
+        expect_between(&rt, rt.alloc(), text, behind.as_slice(), TooDeep)?;
     }
     Ok(())
 }
@@ -529,11 +486,11 @@ fn one_level_more(rt: HostRuntime) -> Result<(), Fail> {
 #[test]
 fn in_the_depth(rt: HostRuntime) -> Result<(), Fail> {
     for (told, front, part, count, around) in DEEP {
-        let mut text = nested(rt.alloc(), front, (b"", part), count)?;
-        text.extend_from_slice(around.0)?;
-        let mut behind = Vec::from_slice(rt.alloc(), around.1)?;
-        put_each(&mut behind, part, count)?;
-        expect_between(&rt, rt.alloc(), text, behind.as_slice(), told)?;
+        let mut text = nested(rt.alloc(), front, ("", part), *count)?;
+        put_each(&mut text, around.0, 1)?;
+        let mut behind = joined(rt.alloc(), &[around.1])?;
+        put_each(&mut behind, part, *count)?;
+        expect_between(&rt, rt.alloc(), text, behind.as_slice(), *told)?;
     }
     Ok(())
 }

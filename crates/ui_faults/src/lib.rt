@@ -3,6 +3,14 @@
 #![tactic(auto)]
 
 #[cfg(test)]
+mod between;
+#[cfg(test)]
+mod calls;
+#[cfg(test)]
+mod deep;
+#[cfg(test)]
 mod files;
 #[cfg(test)]
-mod forms;
+mod fronts;
+#[cfg(test)]
+mod told;
