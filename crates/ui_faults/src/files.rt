@@ -9,6 +9,7 @@ use ui_base::{NoMemory, Text};
 use ui_pdecl::parse_file;
 use ui_pexpr::{Form, ParseFault};
 use ui_scan::tokens;
+use ui_tree::FileTree;
 
 const FILE: &str = "package p\n";
 
@@ -349,14 +350,23 @@ const OUTSIDE: &[(Form, &str, &str)] = &[
     (Form::GenericAlias, "type ( A int; T[P []int] ", "= int )"),
 ];
 
-// The fault of a text, or none where it is a file.
-fn fault_of(rt: &impl Abort, alloc: Global, text: &[u8]) -> Result<Option<ParseFault>, Fail> {
+// What is read of a text in the package `own/p`.
+pub fn read(
+    rt: &impl Abort,
+    alloc: Global,
+    text: &[u8],
+) -> Result<Result<FileTree, ParseFault>, Fail> {
     assert!(rt; text.len() < 10000);
     let found = tokens(alloc, text)?;
     assert!(rt; found.len() < 10000);
     let file = Text::from_slice(alloc, b"p.go")?;
     let own = Text::from_slice(alloc, b"own/p")?;
-    match parse_file(alloc, text, found.as_slice(), &file, &own) {
+    Ok(parse_file(alloc, text, found.as_slice(), &file, &own))
+}
+
+// The fault of a text, or none where it is a file.
+fn fault_of(rt: &impl Abort, alloc: Global, text: &[u8]) -> Result<Option<ParseFault>, Fail> {
+    match read(rt, alloc, text)? {
         Ok(_) => Ok(None),
         Err(fault) => Ok(Some(fault)),
     }
@@ -386,7 +396,8 @@ fn expect_unexpected(
     texts: &[Parts],
 ) -> Result<(), Fail> {
     for (before, behind) in texts {
-        let text = joined(alloc, &[front, before])?;
+        let mut text = joined(alloc, &[front])?;
+        put_each(&mut text, before, 1)?;
         expect_between(rt, alloc, text, behind.as_bytes(), Unexpected)?;
     }
     Ok(())

@@ -1,5 +1,5 @@
 //! Faulty texts, with the place and the kind of the fault of each, worked out by hand from the grammar: of expressions, types
-//! and signatures, and of files. All is tests.
+//! and signatures, and of files; and the sample program, which has none. All is tests.
 #![tactic(auto)]
 
 #[cfg(test)]
@@ -12,5 +12,7 @@ mod deep;
 mod files;
 #[cfg(test)]
 mod fronts;
+#[cfg(test)]
+mod sample;
 #[cfg(test)]
 mod told;
