@@ -5,7 +5,7 @@ use Rattle.std.specs.Str.{chars, is_utf8}
 use Rattle.std.specs.Str.Lossy.{utf8_valid_len}
 use Rattle.ui_base.specs.Chars.{is_letter, is_digit, is_upper}
 
--- the words that are no names
+-- the words that are no names, ascending
 abbrev pub keywords : List (List ℕ)
 keywords =
     codes "break" ∷ codes "case" ∷ codes "chan" ∷ codes "const" ∷ codes "continue" ∷ codes "default" ∷ codes "defer" ∷ codes "else" ∷ codes "fallthrough"

@@ -31,7 +31,7 @@ impl Name {
     }
 }
 
-/// The words that are no names. Go specification, "Keywords".
+/// The words that are no names, ascending. Go specification, "Keywords".
 const KEYWORDS: [&str; 25] = [
     "break",
     "case",

@@ -10,6 +10,7 @@ use Rattle.std.specs.Ordering.{nat_cmp, eq_by_cmp, is_lt}
 use Rattle.std.specs.Cmp.Lexicographic.{slice_cmp, texts_ties, nat_list_cmp_total}
 use Rattle.std.specs.FinMap.{get, len-entries, len-empty, entries, entries_sorted, empty, from_entries, contains_key, get-entries, get-from_entries, entries-insert, slice_cmp-IsAntisymmetric, nat_cmp-IsAntisymmetric}
 use Rattle.std.specs.FinMap.Entries.{find, put, by_order, below_all, is_sorted, same_entries}
+use Rattle.std.proofs.lemmas.List.{nil_from_length}
 use Rattle.ui_exports.specs.Linked.{Below}
 use Rattle.ui_below.specs.Claims.{Held, ByPath, claim, about, held, held_of, first_print}
 use Rattle.ui_below.specs.Join.{Apart, Cycle, stale_in, below_in, first_of, unless, joined, marked}
@@ -207,12 +208,8 @@ joined_is_listed own cs list e =
     let P : List Below → Type 0 = λ l. IsStrictlySortedBy (slice_cmp nat_cmp) (map (λ b. b.path) l) in
     subst P (of_joined own cs list e) (listed (entries (held cs)) (entries_sorted (held cs)))
 
-nothing_in : {A : Type 0} (xs : List A) → length xs ≡ 0 → xs ≡ []
-nothing_in [] h = refl
-nothing_in (x ∷ xs) h = absurd (omega (arith, h))
-
 no_entries : entries (empty {X = Held} {R = slice_cmp nat_cmp}) ≡ []
-no_entries = nothing_in _ (sym (len-entries empty) ∙ len-empty (slice_cmp nat_cmp) Held)
+no_entries = nil_from_length _ (sym (len-entries empty) ∙ len-empty (slice_cmp nat_cmp) Held)
 
 module _ (test : List ℕ → List ℕ → Bool) where
   abbrev passes : List ℕ × Held → Bool

@@ -6,10 +6,6 @@ use Rattle.ui_below.specs.Holding.{entry_of}
 use Rattle.ui_below.specs.Join.{Apart, Stale, stale_in, first_of}
 use Rattle.ui_below.specs.declared.claims.Held.{Held}
 
-pub map_twice : {A B C : Type 0} (f : B → C) (g : A → B) (xs : List A) → map (λ x. f (g x)) xs ≡ map f (map g xs)
-map_twice f g [] = refl
-map_twice f g (x ∷ xs) = ap (λ l. f (g x) ∷ l) (map_twice f g xs)
-
 abbrev Entry : Type 0
 Entry = Vec ℕ Global × Held
 

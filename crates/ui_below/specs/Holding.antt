@@ -1,7 +1,9 @@
 -- What is held of claims, by the entries of the map that holds it. This project's own.
-use Rattle.std.specs.Prelude.{ℕ, Bool, ◌||◌, List, [], ◌∷◌, map, Option, Some, None, Vec, bytes_eq, if◌then◌else◌}
+use Rattle.std.specs.Prelude.{ℕ, Bool, ◌||◌, List, [], ◌∷◌, Option, Some, None, Vec, bytes_eq, if◌then◌else◌}
 use Rattle.std.specs.declared.alloc.Global.{Global}
-use Rattle.std.specs.FinMap.{get, insert, from_entries}
+use Rattle.std.specs.FinMap.{get, insert}
+use Rattle.ui_base.specs.Entries as entries
+use Rattle.ui_base.specs.Entries.{bytes_of, map_of}
 use Rattle.ui_exports.specs.Linked.{Below}
 use Rattle.ui_below.specs.Claims as claims
 use Rattle.ui_below.specs.Claims.{ByPath}
@@ -11,10 +13,10 @@ abbrev pub held_as : Held → claims.Held
 held_as h = record { print = h.print; other = h.other; direct = h.direct }
 
 abbrev pub entry_of : Vec ℕ Global × Held → List ℕ × claims.Held
-entry_of e = (e.0.items, held_as e.1)
+entry_of e = entries.entry_of bytes_of held_as e
 
 unfoldable pub holding : List (Vec ℕ Global × Held) → ByPath claims.Held
-holding es = from_entries (map entry_of es)
+holding es = map_of bytes_of held_as es
 
 -- the first other fingerprint, with one more
 abbrev pub other_with : List ℕ → Option (List ℕ) → List ℕ → Option (List ℕ)

@@ -9,6 +9,3 @@ mod lists;
 
 pub use laws::list_of_paths;
 pub use lists::{JoinFault, join};
-
-#[cfg(test)]
-mod tests;

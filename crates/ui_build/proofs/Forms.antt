@@ -3,7 +3,7 @@ use Rattle.std.proofs.Common.{◌≡◌, ◌∙◌, ap, sym, refl, ℕ, true, Li
 use Rattle.std.specs.List.{AllByRecursion}
 use Rattle.ui_base.specs.Paths.{is_path}
 use Rattle.ui_base.specs.declared.value.Pos.{Pos}
-use Rattle.ui_types.specs.declared.check_fault.Fault.{Fault}
+use Rattle.ui_base.specs.declared.fault.Fault.{Fault}
 use Rattle.ui_tree.specs.declared.part.Specs.{Specs}
 use Rattle.ui_tree.specs.declared.part.Specs.TheVariants.{One, Grouped}
 use Rattle.ui_tree.specs.declared.decl.FileTree.{FileTree}

@@ -12,7 +12,7 @@ use Rattle.ui_store.specs.declared.store.Given.TheVariants as given
 use Rattle.ui_frame.specs.Container.{fingerprint}
 use Rattle.ui_frame.specs.Opening.{first_failing, parts_in}
 use Rattle.ui_frame.specs.declared.frame.FrameFault.{FrameFault}
-use Rattle.ui_types.specs.declared.check_fault.Fault.{Fault}
+use Rattle.ui_base.specs.declared.fault.Fault.{Fault}
 use Rattle.ui_exports.specs.Export.{Export}
 use Rattle.ui_exports.specs.Linked.{Linked, Below}
 use Rattle.ui_base.specs.declared.value.Pos.{Pos}

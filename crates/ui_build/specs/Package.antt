@@ -6,7 +6,7 @@ use Rattle.ui_store.specs.declared.fault.StoreFault.{StoreFault}
 use Rattle.ui_store.specs.declared.fault.StoreFault.TheVariants as fault
 use Rattle.ui_store.specs.declared.store.AskKind.TheVariants as ask
 use Rattle.ui_base.specs.declared.value.Pos.{Pos}
-use Rattle.ui_types.specs.declared.check_fault.Fault.{Fault}
+use Rattle.ui_base.specs.declared.fault.Fault.{Fault}
 use Rattle.ui_sources.specs.Sources.{Source, SourceTree, Trees, source_limit, trees_of}
 use Rattle.ui_forms.specs.Form.{Form as SourceForm, Source as FormSource, form_of, imports_of}
 use Rattle.ui_build.specs.Plan.{Text, Refusal, NoFile, Faulty, Form, Plan, done, refused, settled, ◌>>=◌, asking}

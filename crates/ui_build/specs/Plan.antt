@@ -4,7 +4,7 @@ use Rattle.std.specs.Prelude.{ℕ, Bool, List, [], ◌∷◌, ◌++◌, Result, 
 use Rattle.ui_store.specs.Calls.{Ask}
 use Rattle.ui_store.specs.declared.store.AskKind.TheVariants as ask
 use Rattle.ui_base.specs.declared.value.Pos.{Pos}
-use Rattle.ui_types.specs.declared.check_fault.Fault.{Fault}
+use Rattle.ui_base.specs.declared.fault.Fault.{Fault}
 use Rattle.ui_frame.specs.declared.frame.FrameFault.{FrameFault}
 use Rattle.ui_exports.specs.Export.{Export}
 

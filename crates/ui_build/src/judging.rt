@@ -20,12 +20,12 @@ use crate::loading::Imports;
 use crate::names::folder;
 use crate::stop::{Refusal, Stop};
 use std::alloc::Global;
+use ui_base::CheckFault;
 use ui_below::{JoinFault, join, list_of_paths};
 use ui_exports::{Below, Linked, Package};
 use ui_forms::{Form, FormFault, accepted_forms, check, form_of, imports_of};
 use ui_order::PACKAGE_LIMIT;
 use ui_sources::{Source, Trees, import_paths_are_valid, read_trees};
-use ui_types::CheckFault;
 
 // The trees of a package's sources, or their first fault.
 fn trees_in(alloc: Global, path: &str, sources: &[Source]) -> Result<Trees, Stop>

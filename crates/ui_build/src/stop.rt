@@ -2,9 +2,8 @@
 ghost use Rattle.std.specs.Prelude.{◌≡◌};
 
 use std::alloc::{AllocError, AllocFailed};
-use ui_base::{Pos, Text};
+use ui_base::{Fault, Pos, Text};
 use ui_frame::FrameFault;
-use ui_types::Fault;
 
 /// Why the sources or the files give no answers. Each `String` is a name in the store, but for the path of `Cycle`.
 #[derive(Drop)]

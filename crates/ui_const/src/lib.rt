@@ -19,6 +19,3 @@ pub use operators::{binary, can_operate};
 pub use prefixes::{can_prefix, unary};
 pub use shifts::{is_shift, shift};
 pub use text::TEXT_LIMIT;
-
-#[cfg(test)]
-mod tests;

@@ -3,8 +3,8 @@ mod ListLaws
 mod ReadSteps
 mod SpellingSizes
 mod WriteLemmas
+mod UseLemmas
 mod NumberingLemmas
 mod GrammarLemmas
 mod NumbersLemmas
 mod FileLemmas
-mod Samples

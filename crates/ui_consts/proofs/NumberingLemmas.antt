@@ -1,7 +1,7 @@
 -- Strings and files that are given numbers.
 use Rattle.std.proofs.Common.{◌≡◌, ℕ, zero, suc, ◌+◌, ◌*◌, ◌^◌, ◌<◌, ◌≤◌, Bool, true, false, cond, not, ◌&&◌, List, [], ◌∷◌, ◌++◌, map, take, length, get_or, Some, pos, negsuc, Vec, inl, inr, refl, sym, ap, ◌∙◌, subst, arith, append_assoc, lit≤}
 use Rattle.std.specs.Prelude.{bytes_eq, slice_get, slice_index, nat_eq, nat_le}
-use Rattle.std.specs.List.{AllByRecursion, IsDistinct, list_any}
+use Rattle.std.specs.List.{AllByRecursion, IsDistinct, flat_map, list_any}
 use Rattle.std.specs.Cmp.Lexicographic.{pointwise}
 use Rattle.std.proofs.Math.ListN.{get_or-append}
 use Rattle.std.proofs.lemmas.List.{append-nil, length-append, length-map, map-append, take_more}
@@ -24,15 +24,16 @@ use Rattle.std.specs.declared.alloc.Global.{Global}
 use denote.Ref.{Bor}
 use Rattle.ui_exports.specs.Export.{Declaration, Export}
 use Rattle.ui_exports.specs.Constants.{declaration, entry_of, declarations_of}
-use Rattle.ui_exports.specs.Entries.{entries-declarations_of, names-entry_of}
+use Rattle.ui_exports.proofs.Entries.{entries-declarations_of, names-entry_of}
 use Rattle.ui_exports.specs.declared.package.Constant.{Constant}
 use Rattle.ui_consts.specs.declared.numbered.Entry as rust
 use Rattle.ui_exports.specs.Linked.{Below, below}
 use Rattle.ui_exports.specs.declared.linked.Below.{Below as Held}
 use Rattle.ui_consts.specs.Elements.{Entry}
-use Rattle.ui_consts.specs.Record.{text_of}
+use Rattle.ui_consts.specs.Record.{below_uses, entry_uses, text_of}
 use Rattle.ui_consts.specs.Size.{HasName, HasNames, IsBelow, IsSmallExport}
-use Rattle.ui_consts.specs.Numbering.{Grown, GrownFiles, IsPlace, IsValueOf, IsEntryOf, AreEntries, IsFile, NumbersConstants, IsBelowOf, AreBelow, NumbersBelow, IsMapOf, entry}
+use Rattle.ui_consts.specs.Numbering.{Covers, Grown, GrownFiles, IsPlace, IsValueOf, IsEntryOf, AreEntries, IsFile, NumbersConstants, IsBelowOf, AreBelow, NumbersBelow, IsMapOf, entry}
+use Rattle.ui_consts.proofs.UseLemmas.{covers_none, more_below_used, more_files_used, more_used, no_files}
 
 -- ---- one text
 
@@ -212,18 +213,25 @@ constants_none s es bs none no_bases = record {
   entries = subst (λ xs. AreEntries s bs xs []) (sym none) tt;
   files = subst (AllByRecursion (IsFile s)) (sym no_bases) tt;
   few = omega (arith, ap length no_bases);
+  apart = subst (IsDistinct nat_eq) (sym no_bases) no_files;
+  used = covers_none (bs ++ flat_map entry_uses es) (length s) (length s) (omega arith);
+  files_used = covers_none (map (λ e. e.base) es) 0 (length bs) (omega (arith, ap length no_bases));
 }
 
 new_files : (name : List ℕ) (s : List (List ℕ)) (fs : List ℕ) → is_some_text name ≡ true → AllByRecursion (λ k. IsPlace name k s) fs → AllByRecursion (IsFile s) fs
 new_files name s [] some h = tt
 new_files name s (f ∷ fs) some h = ((h.0.there, ap is_some_text h.0.is ∙ some), new_files name s fs some h.1)
 
-pub constants_more : (ds : List (List ℕ × Declaration)) (es : List Entry) (bs cs : List ℕ) (s t u : List (List ℕ)) (e : Entry) (d : List ℕ × Declaration) → is_some_text d.1.file ≡ true → NumbersConstants ds es bs s t → Grown 3 t u → GrownFiles d.1.file u bs cs → IsEntryOf u cs e d → NumbersConstants (ds ++ d ∷ []) (es ++ e ∷ []) cs s u
-constants_more ds es bs cs s t u e d some so_far g f is = record {
+pub constants_more : (ds : List (List ℕ × Declaration)) (es : List Entry) (bs cs : List ℕ) (s t u : List (List ℕ)) (e : Entry) (d : List ℕ × Declaration) → is_some_text d.1.file ≡ true → NumbersConstants ds es bs s t → Grown 3 t u → GrownFiles d.1.file u bs cs → IsEntryOf u cs e d
+    → IsDistinct nat_eq cs → Covers (cs ++ entry_uses e) (length t) (length u) → Covers (e.base ∷ []) (length bs) (length cs) → NumbersConstants (ds ++ d ∷ []) (es ++ e ∷ []) cs s u
+constants_more ds es bs cs s t u e d some so_far g f is apart used file_used = record {
   texts = grown_then (3 * length ds) 3 (3 * length (ds ++ d ∷ [])) s t u (omega (arith, length-append ds (d ∷ []))) so_far.texts g;
   entries = entries_push u cs es ds e d (entries_later 3 t u bs f.more cs es ds g f.grown so_far.entries) is;
   files = subst (AllByRecursion (IsFile u)) (sym f.grown) (all_append (IsFile u) bs f.more (file_later 3 t u bs g so_far.files) (new_files d.1.file u f.more some f.files));
   few = omega (arith, so_far.few, ap length f.grown, length-append bs f.more, f.few, length-append ds (d ∷ []));
+  apart = apart;
+  used = more_used bs f.more cs es e (length s) (length t) (length u) f.grown so_far.used used;
+  files_used = more_files_used es e (length bs) (length cs) so_far.files_used file_used;
 }
 
 -- ---- packages below
@@ -245,15 +253,16 @@ below_push s (x ∷ bs) [] b d h is = absurd h
 below_push s (x ∷ bs) (y ∷ ds) b d h is = (h.0, below_push s bs ds b d h.1 is)
 
 pub below_none : (s : List (List ℕ)) (bs : List BelowEl) → bs ≡ [] → NumbersBelow [] bs s s
-below_none s bs none = record { texts = grown_none 0 s s refl; below = subst (λ xs. AreBelow s xs []) (sym none) tt }
+below_none s bs none = record { texts = grown_none 0 s s refl; below = subst (λ xs. AreBelow s xs []) (sym none) tt; used = covers_none (flat_map below_uses bs) (length s) (length s) (omega arith) }
 
-pub below_more : (ds : List Held) (i : ℕ) (bs new : List BelowEl) (s t u : List (List ℕ)) (b : BelowEl) (d x : Held) → i < length ds → d ≡ get_or ds i x → new ≡ bs ++ b ∷ [] → NumbersBelow (map below (take i ds)) bs s t → Grown 2 t u → IsBelowOf u b (below d) → NumbersBelow (map below (take (i + 1) ds)) new s u
-below_more ds i bs new s t u b d x h at pushed so_far g is =
+pub below_more : (ds : List Held) (i : ℕ) (bs new : List BelowEl) (s t u : List (List ℕ)) (b : BelowEl) (d x : Held) → i < length ds → d ≡ get_or ds i x → new ≡ bs ++ b ∷ [] → NumbersBelow (map below (take i ds)) bs s t → Grown 2 t u → IsBelowOf u b (below d) → Covers (below_uses b) (length t) (length u) → NumbersBelow (map below (take (i + 1) ds)) new s u
+below_more ds i bs new s t u b d x h at pushed so_far g is used =
     let more : map below (take (i + 1) ds) ≡ map below (take i ds) ++ below d ∷ [] = ap (map below) (take_more ds i x h ∙ ap (λ y. take i ds ++ y ∷ []) (sym at)) ∙ map-append below (take i ds) (d ∷ []) in
     subst (λ (xs : List Below). NumbersBelow xs new s u) (sym more) (subst (λ (ys : List BelowEl). NumbersBelow (map below (take i ds) ++ below d ∷ []) ys s u) (sym pushed)
     (record {
       texts = grown_then (2 * length (map below (take i ds))) 2 (2 * length (map below (take i ds) ++ below d ∷ [])) s t u (omega (arith, length-append (map below (take i ds)) (below d ∷ []))) so_far.texts g;
       below = below_push u bs (map below (take i ds)) b (below d) (below_later 2 t u bs (map below (take i ds)) g so_far.below) is;
+      used = more_below_used bs b (length s) (length t) (length u) so_far.used used;
     }))
 
 pub below_room : (ds : List Held) (i : ℕ) (bs : List BelowEl) (s t : List (List ℕ)) → length s ≤ 2 ^ 14 → length ds ≤ 1024 → i < length ds → NumbersBelow (map below (take i ds)) bs s t → length t < 2 ^ 30
@@ -315,11 +324,12 @@ loop_room e kept ps es bs s t small decls sorted h room so_far =
     (omega (arith, longer (3 * length (map shown ps)) s t so_far.texts), omega (arith, so_far.few))
 
 pub loop_next : (e : Export) (kept : Kept) (ps : List Item) (p : Item) (text : List ℕ) (es new : List rust.Entry) (x : rust.Entry) (bs cs : List ℕ) (s t u : List (List ℕ)) → HasNames e → declarations_of kept ≡ e.decls → IsStrictlySortedBy (λ (x y : Vec ℕ Global). slice_cmp nat_cmp x.items y.items) (map (λ q. q.0) kept) → slice_get kept (length ps) ≡ Some (deref_pair p) → text ≡ p.0.now.items → new ≡ es ++ x ∷ []
-    → NumbersConstants (map shown ps) (map entry es) bs s t → Grown 3 t u → GrownFiles (declaration p.1.now).file u bs cs → IsEntryOf u cs (entry x) (text, declaration p.1.now) → NumbersConstants (map shown (ps ++ p ∷ [])) (map entry new) cs s u
-loop_next e kept ps p text es new x bs cs s t u names decls sorted found same pushed so_far g f is =
+    → NumbersConstants (map shown ps) (map entry es) bs s t → Grown 3 t u → GrownFiles (declaration p.1.now).file u bs cs → IsEntryOf u cs (entry x) (text, declaration p.1.now)
+    → IsDistinct nat_eq cs → Covers (cs ++ entry_uses (entry x)) (length t) (length u) → Covers (x.base ∷ []) (length bs) (length cs) → NumbersConstants (map shown (ps ++ p ∷ [])) (map entry new) cs s u
+loop_next e kept ps p text es new x bs cs s t u names decls sorted found same pushed so_far g f is apart used file_used =
     let named = item_at HasName e kept (length ps) p text names.entries decls sorted found same in
     let next : NumbersConstants (map shown ps ++ shown p ∷ []) (map entry es ++ entry x ∷ []) cs s u =
-    constants_more (map shown ps) (map entry es) bs cs s t u (entry x) (shown p) named.file so_far g f (subst (λ (t : List ℕ). IsEntryOf u cs (entry x) (t, declaration p.1.now)) same is) in
+    constants_more (map shown ps) (map entry es) bs cs s t u (entry x) (shown p) named.file so_far g f (subst (λ (t : List ℕ). IsEntryOf u cs (entry x) (t, declaration p.1.now)) same is) apart used file_used in
     subst (λ (xs : List Entry). NumbersConstants (map shown (ps ++ p ∷ [])) xs cs s u) (sym (ap (map entry) pushed ∙ map-append entry es (x ∷ [])))
     (subst (λ (ds : List (List ℕ × Declaration)). NumbersConstants ds (map entry es ++ entry x ∷ []) cs s u) (sym (map-append shown ps (p ∷ []))) next)
 

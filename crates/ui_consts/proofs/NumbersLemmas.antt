@@ -1,7 +1,7 @@
 -- A numbered package stands for what is to be written.
 use Rattle.std.proofs.Common.{◌≡◌, ℕ, ◌+◌, ◌*◌, ◌^◌, ◌<◌, ◌≤◌, List, [], ◌∷◌, ◌++◌, map, length, get_or, Some, pos, negsuc, refl, sym, ap, ◌∙◌, subst, arith, append_assoc, lit<}
-use Rattle.std.specs.Prelude.{bytes_eq, true, false}
-use Rattle.std.specs.List.{AllByRecursion, IsDistinct, range_with_len}
+use Rattle.std.specs.Prelude.{bytes_eq, nat_eq, true, false}
+use Rattle.std.specs.List.{AllByRecursion, IsDistinct, flat_map, range_with_len}
 use Rattle.std.specs.List.Sorted.{IsStrictlySortedBy}
 use Rattle.std.specs.Ordering.{nat_cmp}
 use Rattle.std.specs.Cmp.Lexicographic.{slice_cmp}
@@ -21,12 +21,13 @@ use Rattle.ui_eobj.specs.declared.value.ValueEl.TheVariants as value
 use Rattle.ui_exports.specs.Export.{Declaration, Export}
 use Rattle.ui_exports.specs.Linked.{Below, Linked}
 use Rattle.ui_consts.specs.Elements.{Elements, Entry, spelled, spelled_as, base_of, name_of, object_of, types_of, use_of}
-use Rattle.ui_consts.specs.Record.{Fits, IsPositive, below_by, declared_by, meaning, name_at, number, over, text_of, value_of}
+use Rattle.ui_consts.specs.Record.{AllUsed, Fits, IsPositive, base_uses, below_by, below_uses, declared_by, entry_uses, meaning, name_at, number, over, string_uses, text_of, value_of}
 use Rattle.ui_consts.specs.Size.{HasName, IsSmall, IsSmallEntry}
-use Rattle.ui_consts.specs.Numbering.{AreBelow, AreEntries, Grown, IsEntryOf, IsFile, IsMapOf, IsPlace, IsValueOf, Numbers, NumbersBelow, NumbersConstants, elements_of, entry}
+use Rattle.ui_consts.specs.Numbering.{AreBelow, AreEntries, Covers, Grown, IsEntryOf, IsFile, IsMapOf, IsPlace, IsValueOf, Numbers, NumbersBelow, NumbersConstants, elements_of, entry}
 use Rattle.ui_consts.specs.declared.numbered.Numbered.{Numbered}
 use Rattle.ui_consts.proofs.GrammarLemmas.{Over, base_in, name_in, object_in, package_in, private_in, public_in}
 use Rattle.ui_consts.proofs.NumberingLemmas.{entries_later, file_later, grown_then, longer, place_later, same_count}
+use Rattle.ui_consts.proofs.UseLemmas.{covers_both}
 
 -- ---- what values and constants stand for
 
@@ -135,9 +136,9 @@ distinct_none : IsDistinct bytes_eq []
 unfolding IsDistinct
 distinct_none = tt
 
-fits_is : (x : Elements) (l : Linked) (count : ℕ) → IsSmall l → length x.entries ≡ count → x.order ≡ range_with_len 0 count → count ≤ 4096 → length x.strings ≤ 2 ^ 14 → length x.bases ≤ 4096 → IsDistinct bytes_eq x.strings → IsPlace l.export.path x.path x.strings → IsPlace l.export.name x.name x.strings
+fits_is : (x : Elements) (l : Linked) (count : ℕ) → IsSmall l → length x.entries ≡ count → x.order ≡ range_with_len 0 count → count ≤ 4096 → length x.strings ≤ 2 ^ 14 → length x.bases ≤ 4096 → IsDistinct bytes_eq x.strings → AllUsed (length x.strings) (string_uses x) → IsDistinct nat_eq x.bases → AllUsed (length x.bases) (base_uses x) → IsPlace l.export.path x.path x.strings → IsPlace l.export.name x.name x.strings
     → AreEntries x.strings x.bases x.entries (entries l.export.decls) → AllByRecursion (IsFile x.strings) x.bases → AreBelow x.strings x.below l.below → IsMapOf (entries l.export.decls) l.export.decls → Fits x
-fits_is x l count small same order few few_strings few_bases apart path its_name are files below is_map =
+fits_is x l count small same order few few_strings few_bases apart strings_used files_apart files_used path its_name are files below is_map =
     let ds : List (List ℕ × Declaration) = entries l.export.decls in
     let c : Context = over (spelled x) in
     let texts = texts_of x in
@@ -147,6 +148,9 @@ fits_is x l count small same order few few_strings few_bases apart path its_name
     let listed : map (name_at x) x.order ≡ map (λ d. d.0) ds = ap (map (name_at x)) order ∙ ap (λ k. map (name_at x) (range_with_len 0 k)) name_count ∙ whole (map (λ e. text_of x.strings e.name) x.entries) ∙ names in
     record {
       apart = apart;
+      strings_used = strings_used;
+      files_apart = files_apart;
+      files_used = files_used;
       bases = bases_fit c x.strings x.bases count (length (types_of x.entries)) texts is_over few_strings few_bases few x.bases files;
       its_package = package_in c (length x.strings) (length x.bases) count (length (types_of x.entries)) is_over (omega arith) (omega arith) (omega arith) x.path x.name path.there its_name.there
           (ap (λ (xs : List (List ℕ)). is_path (text_of xs x.path)) texts ∙ ap is_path path.is ∙ small.names.path) (ap (λ (xs : List (List ℕ)). is_name (text_of xs x.name)) texts ∙ ap is_name its_name.is ∙ small.names.name);
@@ -166,9 +170,9 @@ means_is x l path its_name are below is_map =
     let decls : from_entries {R = slice_cmp nat_cmp} (map (declared_by x.strings x.bases) x.entries) ≡ l.export.decls = ap (from_entries {R = slice_cmp nat_cmp}) (entries_mean x.strings x.bases x.entries (entries l.export.decls) are) ∙ is_map.whole in
     λ i. record { export = record { path = path.is i; name = its_name.is i; decls = decls i }; below = below_means x.strings x.below l.below below i }
 
-pub numbers_is : (n : Numbered) (l : Linked) (s0 s1 s2 s3 s4 : List (List ℕ)) → IsSmall l → s0 ≡ [] → n.strings.items ≡ s4 → Grown 1 s0 s1 → IsPlace l.export.path n.path s1 → Grown 1 s1 s2 → IsPlace l.export.name n.name s2
+pub numbers_is : (n : Numbered) (l : Linked) (s0 s1 s2 s3 s4 : List (List ℕ)) → IsSmall l → s0 ≡ [] → n.strings.items ≡ s4 → Grown 1 s0 s1 → IsPlace l.export.path n.path s1 → Covers (n.path ∷ []) (length s0) (length s1) → Grown 1 s1 s2 → IsPlace l.export.name n.name s2 → Covers (n.name ∷ []) (length s1) (length s2)
     → NumbersConstants (entries l.export.decls) (map entry n.entries.items) n.bases.items s2 s3 → IsMapOf (entries l.export.decls) l.export.decls → NumbersBelow l.below n.below.below s3 s4 → Numbers n l
-numbers_is n l s0 s1 s2 s3 s4 small empty same g1 path g2 its_name constants is_map belows =
+numbers_is n l s0 s1 s2 s3 s4 small empty same g1 path path_used g2 its_name name_used constants is_map belows =
     let ds : List (List ℕ × Declaration) = entries l.export.decls in
     let es : List Entry = map entry n.entries.items in
     let x : Elements = elements_of n in
@@ -188,8 +192,13 @@ numbers_is n l s0 s1 s2 s3 s4 small empty same g1 path g2 its_name constants is_
     let count_ds : length es ≡ length ds = same_count x.strings n.bases.items es ds are in
     let apart : IsDistinct bytes_eq x.strings = subst (IsDistinct bytes_eq) (sym same) (g04.apart (subst (IsDistinct bytes_eq) (sym empty) distinct_none)) in
     let short : AllByRecursion (λ text. length text ≤ 4096) x.strings = subst (AllByRecursion (λ text. length text ≤ 4096)) (sym (same ∙ g04.grown ∙ ap (λ xs. xs ++ g04.more) empty)) g04.short in
+    let used : Covers (string_uses x) (length s0) (length s4) =
+    covers_both (n.path ∷ n.name ∷ []) ((n.bases.items ++ flat_map entry_uses es) ++ flat_map below_uses n.below.below) (length s0) (length s2) (length s4) (covers_both (n.path ∷ []) (n.name ∷ []) (length s0) (length s1) (length s2) path_used name_used)
+    (covers_both (n.bases.items ++ flat_map entry_uses es) (flat_map below_uses n.below.below) (length s2) (length s3) (length s4) constants.used belows.used) in
+    let strings_used : AllUsed (length x.strings) (string_uses x) = λ k high. used k (omega (arith, ap length empty)) (omega (arith, high, ap length same)) in
+    let files_used : AllUsed (length x.bases) (base_uses x) = λ k high. constants.files_used k (omega arith) high in
     record {
-      fits = fits_is x l (length n.entries.items) small count refl (omega arith) (omega (arith, ap length same)) (omega (arith, constants.few)) apart path4 name4 are files below4 is_map;
+      fits = fits_is x l (length n.entries.items) small count refl (omega arith) (omega (arith, ap length same)) (omega (arith, constants.few)) apart strings_used constants.apart files_used path4 name4 are files below4 is_map;
       means = means_is x l path4 name4 are below4 is_map;
       strings = omega (arith, ap length same);
       short = short;
@@ -203,9 +212,9 @@ before_below l e es bs s0 s1 s2 s3 small same empty g1 g2 constants =
     let count : length (entries e.decls) ≡ length (entries l.export.decls) = ap (λ (x : Export). length (entries x.decls)) same in
     omega (arith, longer 1 s0 s1 g1, longer 1 s1 s2 g2, longer (3 * length (entries e.decls)) s2 s3 constants.texts, ap length empty, count, small.export.few, len-entries l.export.decls)
 
-pub numbers_all : (n : Numbered) (l : Linked) (e : Export) (ds : List Below) (p q : List ℕ) (bs : List BelowEl) (s0 s1 s2 s3 s4 : List (List ℕ)) → IsSmall l → e ≡ l.export → ds ≡ l.below → p ≡ e.path → q ≡ e.name → bs ≡ n.below.below → s0 ≡ [] → n.strings.items ≡ s4 → Grown 1 s0 s1 → IsPlace p n.path s1 → Grown 1 s1 s2 → IsPlace q n.name s2
+pub numbers_all : (n : Numbered) (l : Linked) (e : Export) (ds : List Below) (p q : List ℕ) (bs : List BelowEl) (s0 s1 s2 s3 s4 : List (List ℕ)) → IsSmall l → e ≡ l.export → ds ≡ l.below → p ≡ e.path → q ≡ e.name → bs ≡ n.below.below → s0 ≡ [] → n.strings.items ≡ s4 → Grown 1 s0 s1 → IsPlace p n.path s1 → Covers (n.path ∷ []) (length s0) (length s1) → Grown 1 s1 s2 → IsPlace q n.name s2 → Covers (n.name ∷ []) (length s1) (length s2)
     → NumbersConstants (entries e.decls) (map entry n.entries.items) n.bases.items s2 s3 → IsMapOf (entries e.decls) e.decls → NumbersBelow ds bs s3 s4 → Numbers n l
-numbers_all n l e ds p q bs s0 s1 s2 s3 s4 small export below path its_name els empty same g1 path_is g2 name_is constants is_map belows =
-    numbers_is n l s0 s1 s2 s3 s4 small empty same g1 (subst (λ (t : List ℕ). IsPlace t n.path s1) (path ∙ ap (λ (x : Export). x.path) export) path_is) g2 (subst (λ (t : List ℕ). IsPlace t n.name s2) (its_name ∙ ap (λ (x : Export). x.name) export) name_is)
+numbers_all n l e ds p q bs s0 s1 s2 s3 s4 small export below path its_name els empty same g1 path_is path_used g2 name_is name_used constants is_map belows =
+    numbers_is n l s0 s1 s2 s3 s4 small empty same g1 (subst (λ (t : List ℕ). IsPlace t n.path s1) (path ∙ ap (λ (x : Export). x.path) export) path_is) path_used g2 (subst (λ (t : List ℕ). IsPlace t n.name s2) (its_name ∙ ap (λ (x : Export). x.name) export) name_is) name_used
     (subst (λ (x : Export). NumbersConstants (entries x.decls) (map entry n.entries.items) n.bases.items s2 s3) export constants) (subst (λ (x : Export). IsMapOf (entries x.decls) x.decls) export is_map)
     (subst (λ (xs : List Below). NumbersBelow xs n.below.below s3 s4) below (subst (λ (ys : List BelowEl). NumbersBelow ds ys s3 s4) els belows))

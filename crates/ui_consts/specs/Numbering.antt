@@ -1,6 +1,6 @@
 -- A package whose strings and files have numbers. This project's own.
-use Rattle.std.specs.Prelude.{◌≡◌, ℕ, ◌*◌, ◌^◌, ◌<◌, ◌≤◌, List, [], ◌∷◌, ◌++◌, map, length, true, false, bytes_eq, slice_index_or, pos, negsuc, ⊤}
-use Rattle.std.specs.List.{AllByRecursion, IsDistinct, range_with_len}
+use Rattle.std.specs.Prelude.{◌≡◌, ℕ, ◌*◌, ◌^◌, ◌<◌, ◌≤◌, List, [], ◌∷◌, ◌++◌, map, flat_map, length, true, false, bytes_eq, nat_eq, slice_index_or, pos, negsuc, ⊤}
+use Rattle.std.specs.List.{AllByRecursion, Contains, IsDistinct, range_with_len}
 use Rattle.std.specs.List.Sorted.{IsStrictlySortedBy}
 use Rattle.std.specs.Ordering.{nat_cmp}
 use Rattle.std.specs.Cmp.Lexicographic.{slice_cmp}
@@ -13,7 +13,7 @@ use Rattle.ui_eobj.specs.declared.value.ValueEl.TheVariants as value
 use Rattle.ui_exports.specs.Export.{Declaration, Declarations}
 use Rattle.ui_exports.specs.Linked.{Below, Linked}
 use Rattle.ui_consts.specs.Elements as elements
-use Rattle.ui_consts.specs.Record.{Fits, meaning, text_of}
+use Rattle.ui_consts.specs.Record.{Fits, below_uses, entry_uses, meaning, text_of}
 use Rattle.ui_consts.specs.declared.numbered.Entry.{Entry}
 use Rattle.ui_consts.specs.declared.numbered.Numbered.{Numbered}
 
@@ -45,6 +45,10 @@ pub record Grown (count : ℕ) (old new : List (List ℕ)) : Type 0 where
 pub record IsPlace (text : List ℕ) (place : ℕ) (strings : List (List ℕ)) : Type 0 where
   pub there : place < length strings
   pub is : text_of strings place ≡ text
+
+-- each of the places from one number up to another is among these
+abbrev pub Covers : List ℕ → ℕ → ℕ → Type 0
+Covers places from to = (k : ℕ) → from ≤ k → k < to → Contains places k
 
 -- ---- constants
 
@@ -85,6 +89,9 @@ pub record NumbersConstants (ds : List (List ℕ × Declaration)) (es : List ele
   pub entries : AreEntries new bases es ds
   pub files : AllByRecursion (IsFile new) bases
   pub few : length bases ≤ length ds
+  pub apart : IsDistinct nat_eq bases
+  pub used : Covers (bases ++ flat_map entry_uses es) (length old) (length new)
+  pub files_used : Covers (map (λ e. e.base) es) 0 (length bases)
 
 -- entries of a map, ascending by name
 pub record IsMapOf (ds : List (List ℕ × Declaration)) (m : Declarations) : Type 0 where
@@ -107,6 +114,7 @@ AreBelow strings (b ∷ bs) (d ∷ ds) = IsBelowOf strings b d × AreBelow strin
 pub record NumbersBelow (ds : List Below) (bs : List BelowEl) (old new : List (List ℕ)) : Type 0 where
   pub texts : Grown (2 * length ds) old new
   pub below : AreBelow new bs ds
+  pub used : Covers (flat_map below_uses bs) (length old) (length new)
 
 -- ---- the whole
 

@@ -1,6 +1,6 @@
 -- What the parts of a linked file stand for. This project's own.
-use Rattle.std.specs.Prelude.{◌≡◌, ℕ, List, [], map, length, true, false, Option, Some, None, slice_index_or, bytes_eq, pos, negsuc}
-use Rattle.std.specs.List.{AllByRecursion, IsDistinct}
+use Rattle.std.specs.Prelude.{◌≡◌, ℕ, ◌<◌, List, [], ◌∷◌, ◌++◌, map, flat_map, length, true, false, Option, Some, None, slice_index_or, bytes_eq, nat_eq, pos, negsuc}
+use Rattle.std.specs.List.{AllByRecursion, Contains, IsDistinct}
 use Rattle.std.specs.List.Sorted.{IsStrictlySortedBy}
 use Rattle.std.specs.Ordering.{nat_cmp}
 use Rattle.std.specs.Cmp.Lexicographic.{slice_cmp}
@@ -66,10 +66,38 @@ name_at x place = slice_index_or (map (λ e. text_of x.strings e.name) x.entries
 abbrev pub IsPositive : List (List ℕ) → Entry → Type 0
 IsPositive strings e = (n : ℕ) × (value_of strings e.value ≡ Some n)
 
--- No String stands twice. Each element is in its grammar, so all places are there, and Strings have the form that their
+-- ---- what elements use
+
+abbrev pub value_uses : ValueEl → List ℕ
+value_uses (value.Int64 z) = []
+value_uses (value.Big k negative) = k ∷ []
+
+abbrev pub entry_uses : Entry → List ℕ
+entry_uses e = e.name ∷ value_uses e.value
+
+abbrev pub below_uses : BelowEl → List ℕ
+below_uses b = b.path ∷ b.print ∷ []
+
+-- the places of the Strings that elements use
+abbrev pub string_uses : Elements → List ℕ
+string_uses x = (x.path ∷ x.name ∷ []) ++ ((x.bases ++ flat_map entry_uses x.entries) ++ flat_map below_uses x.below)
+
+-- the places of the files that constants are declared in
+abbrev pub base_uses : Elements → List ℕ
+base_uses x = map (λ e. e.base) x.entries
+
+-- each of so many places is used
+abbrev pub AllUsed : ℕ → List ℕ → Type 0
+AllUsed count uses = (k : ℕ) → k < count → Contains uses k
+
+-- No String stands twice, and none that no element uses; no file stands twice, and none that no constant is declared in.
+-- Each element is in its grammar, so all places are there, and Strings have the form that their
 -- uses ask for. No value is negative. The public root has each constant once, ascending by name, so no two have one name.
 pub record Fits (x : Elements) : Type 0 where
   pub apart : IsDistinct bytes_eq x.strings
+  pub strings_used : AllUsed (length x.strings) (string_uses x)
+  pub files_apart : IsDistinct nat_eq x.bases
+  pub files_used : AllUsed (length x.bases) (base_uses x)
   pub bases : AllByRecursion (λ file. InGrammar one.posbase (over (spelled x)) (base_of file)) x.bases
   pub its_package : InGrammar one.pkg (over (spelled x)) (package_of x)
   pub names : AllByRecursion (λ e. InGrammar one.name (over (spelled x)) (name_of e)) x.entries

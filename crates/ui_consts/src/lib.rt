@@ -13,6 +13,3 @@ pub use laws::{lists_are_lists, reads_back};
 pub use read::read_linked;
 pub use ui_exports::{Below, Constant, Linked, NoMemory, Package};
 pub use write::write_linked;
-
-#[cfg(test)]
-mod tests;

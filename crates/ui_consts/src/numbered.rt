@@ -1,10 +1,11 @@
 // A package whose strings and files have numbers.
-ghost use Rattle.std.specs.Prelude.{◌≡◌, ◌^◌, ◌<◌, ◌≤◌, length, map, slice_index_or, IfOk, OnOk};
-ghost use Rattle.std.specs.List.{AllByRecursion};
+ghost use Rattle.std.specs.Prelude.{◌≡◌, ◌^◌, ◌<◌, ◌≤◌, [], ◌∷◌, ◌++◌, length, map, nat_eq, slice_index_or, IfOk, OnOk};
+ghost use Rattle.std.specs.List.{AllByRecursion, IsDistinct};
 ghost use Rattle.std.specs.FinMap.{entries};
 ghost use Rattle.ui_exports.specs.Constants.{declaration};
 ghost use Rattle.ui_exports.specs.Linked as linked_of;
-ghost use Rattle.ui_consts.specs.Numbering.{Grown, GrownFiles, IsBelowOf, IsEntryOf, IsMapOf, IsPlace, IsValueOf, Numbers, NumbersBelow, NumbersConstants, entry};
+ghost use Rattle.ui_consts.specs.Numbering.{Covers, Grown, GrownFiles, IsBelowOf, IsEntryOf, IsMapOf, IsPlace, IsValueOf, Numbers, NumbersBelow, NumbersConstants, entry};
+ghost use Rattle.ui_consts.specs.Record.{below_uses, entry_uses, value_uses};
 ghost use Rattle.ui_consts.specs.Size.{HasNames, IsBelow, IsSmall, IsSmallEntry, IsSmallExport};
 
 use indexmap::IndexSet;
@@ -40,6 +41,8 @@ fn place_of(alloc: Global, strings: &mut IndexSet<Text>, text: &[u8]) -> Result<
     requires short { length text.now ≤ 4096 }
     ensures place { IfOk result (λ place. IsPlace text.now place strings.new.keys) }
     ensures texts { OnOk result (Grown 1 strings.old.keys strings.new.keys) }
+    ensures used { IfOk result
+        (λ place. Covers (place ∷ []) (length strings.old.keys) (length strings.new.keys)) }
 {
     let text = Text::from_slice(alloc, text)?;
     let (place, _new) = strings.insert_full(text)?;
@@ -52,6 +55,8 @@ fn value_of(alloc: Global, strings: &mut IndexSet<Text>, value: u128) -> Result<
     requires small { value < 2 ^ 127 }
     ensures value { IfOk result (λ v. IsValueOf strings.new.keys v value) }
     ensures texts { OnOk result (Grown 1 strings.old.keys strings.new.keys) }
+    ensures used { IfOk result
+        (λ v. Covers (value_uses v) (length strings.old.keys) (length strings.new.keys)) }
 {
     if value < 1 << 63 {
         return Ok(ValueEl::Int64(value as i64));
@@ -78,6 +83,11 @@ fn base_of(
     ensures files { OnOk result (GrownFiles file.now strings.new.keys bases.old.keys bases.new.keys) }
     ensures there { IfOk result (λ base. base < length bases.new.keys) }
     ensures is { IfOk result (λ base. IsPlace file.now (slice_index_or bases.new.keys base 0) strings.new.keys) }
+    ensures apart { OnOk result (IsDistinct nat_eq bases.new.keys) }
+    ensures used { OnOk result
+        (Covers bases.new.keys (length strings.old.keys) (length strings.new.keys)) }
+    ensures file_used { IfOk result
+        (λ base. Covers (base ∷ []) (length bases.old.keys) (length bases.new.keys)) }
 {
     let file = place_of(alloc, strings, file)?;
     let (base, _new) = bases.insert_full(file)?;
@@ -98,6 +108,11 @@ fn entry_of(
     ensures texts { OnOk result (Grown 3 strings.old.keys strings.new.keys) }
     ensures files { OnOk result (GrownFiles (declaration constant.now).file strings.new.keys bases.old.keys bases.new.keys) }
     ensures is { IfOk result (λ e. IsEntryOf strings.new.keys bases.new.keys (entry e) (name.now, declaration constant.now)) }
+    ensures apart { OnOk result (IsDistinct nat_eq bases.new.keys) }
+    ensures used { IfOk result (λ e. Covers (bases.new.keys ++ entry_uses (entry e))
+        (length strings.old.keys) (length strings.new.keys)) }
+    ensures file_used { IfOk result
+        (λ e. Covers (e.base ∷ []) (length bases.old.keys) (length bases.new.keys)) }
 {
     let base = base_of(alloc, strings, bases, constant.pos.file.bytes())?;
     let name = place_of(alloc, strings, name)?;
@@ -153,6 +168,8 @@ fn below_of(alloc: Global, strings: &mut IndexSet<Text>, below: &Below) -> Resul
     requires is { IsBelow (linked_of.below below.now) }
     ensures texts { OnOk result (Grown 2 strings.old.keys strings.new.keys) }
     ensures below { IfOk result (λ b. IsBelowOf strings.new.keys b (linked_of.below below.now)) }
+    ensures used { IfOk result
+        (λ b. Covers (below_uses b) (length strings.old.keys) (length strings.new.keys)) }
 {
     let path = place_of(alloc, strings, below.path.bytes())?;
     let print = place_of(alloc, strings, &below.print)?;

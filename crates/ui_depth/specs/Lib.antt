@@ -1,16 +1,1 @@
-pub mod Deeper
-pub mod Goes
-pub mod Lists
-pub mod Ends
-pub mod Budgets
-pub mod DeepParams
-pub mod Operands
-pub mod DeepTypes
-pub mod Depths
-pub mod DeepOperands
-pub mod DeepSuffixes
-pub mod DeepExprs
-pub mod Nothing
-pub mod Readers
 pub mod Laws
-pub mod Passes

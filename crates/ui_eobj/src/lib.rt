@@ -9,7 +9,7 @@ mod object;
 mod root;
 mod value;
 
-pub use magnitude::{magnitude_bytes, magnitude_number};
+pub use magnitude::{is_big, is_magnitude, magnitude_bytes, magnitude_number};
 pub use object::{ConstEl, PosEl};
 pub use root::{BelowEl, ObjectUse, PrivateRootEl, PublicRootEl};
 pub use value::ValueEl;

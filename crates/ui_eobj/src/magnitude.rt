@@ -35,7 +35,7 @@ pub fn magnitude_bytes(alloc: Global, number: u128) -> Result<Vec<u8>, NoMemory>
 }
 
 /// Whether bytes are the shortest of the magnitude of a number of this sign that passes 64 signed bits and is a constant.
-pub(crate) fn is_big(negative: bool, bytes: &[u8]) -> bool
+pub fn is_big(negative: bool, bytes: &[u8]) -> bool
     ensures { result ≡ values.is_big negative bytes.now }
 {
     if bytes.is_empty() || bytes[0] == 0 {
@@ -58,7 +58,7 @@ fn is_past_64(negative: bool, number: u128) -> bool
 }
 
 /// Whether bytes are such a magnitude of either sign.
-pub(crate) fn is_magnitude(bytes: &[u8]) -> bool
+pub fn is_magnitude(bytes: &[u8]) -> bool
     ensures { result ≡ values.is_magnitude bytes.now }
 {
     is_big(false, bytes) || is_big(true, bytes)

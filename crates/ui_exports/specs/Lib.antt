@@ -2,4 +2,3 @@ pub mod Export
 pub mod Constants
 pub mod Adding
 pub mod Linked
-pub mod Entries

@@ -385,10 +385,11 @@ fn expect_deep(rt: &impl Abort, alloc: Global, row: Deep, more: usize) -> Result
     assert!(rt; behind.len() < 10000);
     let found = ui_scan::tokens(alloc, behind)?;
     for token in found.as_slice() {
-        if token.start >= token.end || token.end > behind.len() {
+        let (start, end) = (token.start as usize, token.end as usize);
+        if start >= end || end > behind.len() {
             continue;
         }
-        expect_token(rt, alloc, row, &behind[token.start..token.end], more)?;
+        expect_token(rt, alloc, row, &behind[start..end], more)?;
     }
     Ok(())
 }

@@ -622,10 +622,11 @@ fn expect_next(
     let listed = ui_scan::tokens(alloc, listed.as_slice())?;
     let words = ALL.as_bytes();
     for token in all {
-        if token.start >= token.end || token.end > words.len() {
+        let (start, end) = (token.start as usize, token.end as usize);
+        if start >= end || end > words.len() {
             continue;
         }
-        let word = &words[token.start..token.end];
+        let word = &words[start..end];
         let mut text = joined(alloc, &[front, " "])?;
         if has(listed.as_slice(), token.kind) {
             let at = text.len();

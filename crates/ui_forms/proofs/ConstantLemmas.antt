@@ -6,7 +6,7 @@ use Rattle.ui_tree.specs.declared.decl.DeclTree.{DeclTree}
 use Rattle.ui_tree.specs.declared.expr.ExprTree.{ExprTree}
 use Rattle.ui_tree.specs.StmtView.{decl_view, maybe_trees}
 use Rattle.ui_forms.specs.Numbers.{Numbered, has}
-use Rattle.ui_forms.specs.Steps.{and_then}
+use Rattle.ui_base.specs.Steps.{and_then}
 use Rattle.ui_forms.specs.Sums.{Known, with_name}
 use Rattle.ui_forms.specs.Form.{constant_of, constants_of, one_tree}
 use Rattle.ui_forms.specs.Choosing.{GivesPart}
@@ -14,7 +14,7 @@ use Rattle.ui_forms.specs.declared.part.ConstantSum.{ConstantSum}
 use Rattle.ui_forms.specs.declared.fault.PartFault.{PartFault}
 use Rattle.ui_forms.specs.declared.fault.PartFault.TheVariants.{NotTaken, NoMemory}
 use Rattle.ui_forms.proofs.NumberLemmas.{has-insert}
-use Rattle.ui_forms.proofs.StepLemmas.{behind, behind-end, behind_more, turn, no_turn}
+use Rattle.ui_base.proofs.StepLemmas.{behind, behind-end, behind_more, turn, no_turn}
 
 module _ (imports : Known) (own : Numbered) (ds : List DeclTree) (i : ℕ) (cs : List ConstantSum) (target : Result (List ConstantSum) Spot) where
   abbrev IsSoFar : Type 0

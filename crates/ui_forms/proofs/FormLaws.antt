@@ -9,7 +9,7 @@ use Rattle.ui_base.specs.declared.value.Pos.{Pos}
 use Rattle.ui_base.specs.Names.{is_keyword, is_name}
 use Rattle.ui_base.specs.Paths.{is_path, is_reserved, has_segments}
 use Rattle.ui_forms.specs.Words.{is_ascii_name, is_package_name, is_slash, last_segment}
-use Rattle.ui_forms.specs.Steps.{and_then}
+use Rattle.ui_base.specs.Steps.{and_then}
 use Rattle.ui_forms.specs.Form.{Form, Source, are_distinct, ascending, decl_count, file_paths, form_of, form_of_parts, front, has_few_decls, has_sources, imported, imports_of, is_package, is_source, part_paths, parts_of}
 use Rattle.ui_forms.specs.Size.{HasPath, HasPaths, IsSmallForm, IsSmallPart}
 use Rattle.ui_forms.specs.Laws.{FormsAreSmall, ImportsAreFound, PathIsKept, PathsAreValid}

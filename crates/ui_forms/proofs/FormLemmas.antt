@@ -13,7 +13,7 @@ use Rattle.ui_tree.specs.Stmt.{File}
 use Rattle.ui_tree.specs.StmtView.{decl_view, file_view, import_view}
 use Rattle.ui_forms.specs.Words.{last_segment}
 use Rattle.ui_forms.specs.Numbers.{Numbered, has}
-use Rattle.ui_forms.specs.Steps.{and_then, each}
+use Rattle.ui_base.specs.Steps.{and_then, each}
 use Rattle.ui_forms.specs.Sums.{nothing}
 use Rattle.ui_forms.specs.Form.{Form, Source, are_distinct, constants_of, file_paths, form_of, form_of_parts, front, has_sources, import_of, imports_of, is_among, is_package, part_of, part_with, parts_of, segments, set_with, source_of}
 use Rattle.ui_forms.specs.Choosing.{GivesForm, GivesPart, IsNotTaken, IsSet}

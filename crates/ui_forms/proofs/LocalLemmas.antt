@@ -8,12 +8,12 @@ use Rattle.std.specs.Cmp.Lexicographic.{slice_cmp}
 use Rattle.std.specs.FinMap.{contains_key-keys, empty, insert}
 use Rattle.std.proofs.lemmas.Map.Text.{is_eq-slice_cmp}
 use Rattle.std.proofs.lemmas.Slice.Eq.{bytes_eq-Decides}
-use Rattle.ui_types.specs.declared.check_fault.Fault.{Fault}
-use Rattle.ui_types.specs.declared.check_fault.FaultKind.TheVariants.{ConstTooBig, Undefined}
+use Rattle.ui_base.specs.declared.fault.Fault.{Fault}
+use Rattle.ui_base.specs.declared.fault.FaultKind.TheVariants.{ConstTooBig, Undefined}
 use Rattle.ui_exports.specs.Export.{Declarations}
 use Rattle.ui_forms.specs.Words.{last_segment}
 use Rattle.ui_forms.specs.Numbers.{Numbered, has}
-use Rattle.ui_forms.specs.Steps.{and_then}
+use Rattle.ui_base.specs.Steps.{and_then}
 use Rattle.ui_forms.specs.Form.{Form, ascending, imported, part_paths, set_with}
 use Rattle.ui_forms.specs.Verdict.{Environment, Selection, Agree, IsLocal, added, all_used, constant_value, declared, declared_from, exported, fault_at, first_spot, import_by, name_of, parts_from, spot_of, sum_of, term_value, value_from, value_of, verdict}
 use Rattle.ui_forms.specs.declared.part.Term.{Term}

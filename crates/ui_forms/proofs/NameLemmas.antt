@@ -13,7 +13,7 @@ use Rattle.ui_forms.specs.declared.part.ConstantSum.{ConstantSum}
 use Rattle.ui_forms.specs.declared.part.ImportPath.{ImportPath}
 use Rattle.ui_forms.specs.declared.part.Part.{Part}
 use Rattle.ui_forms.proofs.NumberLemmas.{has-empty, has-insert, has-set}
-use Rattle.ui_forms.proofs.StepLemmas.{turn, no_turn}
+use Rattle.ui_base.proofs.StepLemmas.{turn, no_turn}
 
 -- ---- texts of a list
 

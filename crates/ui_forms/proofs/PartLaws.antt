@@ -14,7 +14,7 @@ use Rattle.ui_tree.specs.Tree.{Tree, MaybeType, no_type, given_type}
 use Rattle.ui_tree.specs.Stmt.{constants, variables, Imported, Import, Decl, common_decl, type_decl, method_decl, func_decl}
 use Rattle.ui_forms.specs.Words.{is_constant_name, is_package_name}
 use Rattle.ui_forms.specs.Spots.{is_count, is_place}
-use Rattle.ui_forms.specs.Steps.{and_then, each}
+use Rattle.ui_base.specs.Steps.{and_then, each}
 use Rattle.ui_forms.specs.Sums.{Known, nothing, with_name, terms_of}
 use Rattle.ui_forms.specs.Form.{Source, at_file, constant_of, constant_of_parts, constants_of, decl_count, file_paths, import_of, import_of_path, import_of_spec, import_paths, is_among, is_declared_name, is_import_path, is_source, names, one_name, one_tree, part_of, part_paths, part_with, parts_of, segments, spec_paths}
 use Rattle.ui_forms.specs.Size.{HasPath, IsSmallConstant, IsSmallPart}

@@ -11,6 +11,7 @@ use Rattle.std.specs.FinMap.{empty, entries, insert, keys, entries-insert, len-e
 use Rattle.std.specs.FinMap.Entries.{put, by_order}
 use Rattle.std.specs.Map.Iter.{deref_pair}
 use denote.Ref.{Bor}
+use Rattle.std.proofs.lemmas.List.{nil_from_length}
 use Rattle.ui_base.specs.Paths.{is_path}
 use Rattle.ui_forms.specs.Numbers.{Numbered, numbers_of}
 use Rattle.ui_tree.specs.declared.part.Specs.TheVariants.{Grouped}
@@ -19,7 +20,7 @@ use Rattle.ui_tree.specs.declared.decl.ImportTree.{ImportTree}
 use Rattle.ui_tree.specs.StmtView.{import_view}
 use Rattle.ui_forms.specs.Form.{ascending, set_with, spec_paths}
 use Rattle.ui_forms.proofs.NumberLemmas.{Entry, text_at, keys-numbers_of}
-use Rattle.ui_forms.proofs.StepLemmas.{turn, no_turn}
+use Rattle.ui_base.proofs.StepLemmas.{turn, no_turn}
 
 pub set_with-append : (m : Numbered) (xs ys : List (List ℕ)) → set_with m (xs ++ ys) ≡ set_with (set_with m xs) ys
 set_with-append m [] ys = refl
@@ -55,17 +56,13 @@ module _ (P : List ℕ → Type 0) where
       elim (slice_cmp nat_cmp k e.0) as (λ o. AllByRecursion (λ x. P x.0) (by_order o ((k, v) ∷ e ∷ es) ((e.0, v) ∷ es) (e ∷ put (slice_cmp nat_cmp) k v es)))
       [ Less ↦ (new, h) | Equal ↦ h | Greater ↦ (h.0, put-all k v es new h.1) ]
 
-  nothing_in : {X : Type 0} (xs : List X) → length xs ≡ 0 → xs ≡ []
-  nothing_in [] h = refl
-  nothing_in (x ∷ xs) h = absurd (omega (arith, h))
-
   abbrev AllIn : Numbered → Type 0
   AllIn m = AllByRecursion (λ e. P e.0) (entries m)
 
   none-all : AllIn empty
   none-all =
       let none : length (entries (empty {X = ℕ} {R = slice_cmp nat_cmp})) ≡ 0 = sym (len-entries empty) ∙ len-empty (slice_cmp nat_cmp) ℕ in
-      subst (AllByRecursion (λ e. P e.0)) (sym (nothing_in (entries (empty {X = ℕ} {R = slice_cmp nat_cmp})) none)) tt
+      subst (AllByRecursion (λ e. P e.0)) (sym (nil_from_length (entries (empty {X = ℕ} {R = slice_cmp nat_cmp})) none)) tt
 
   set-all : (m : Numbered) (texts : List (List ℕ)) → AllIn m → AllByRecursion P texts → AllIn (set_with m texts)
   set-all m [] h all = h

@@ -11,7 +11,7 @@ use Rattle.ui_tree.specs.Tree.{Tree, literal, name, selector, binary}
 use Rattle.ui_tree.specs.View.{kept, view}
 use Rattle.ui_tree.specs.Views.{seen_Binary}
 use Rattle.ui_tree.proofs.Apart.{apart_Binary, apart_Literal, apart_Name, apart_Selector}
-use Rattle.ui_forms.specs.Spots.{tree_spot}
+use Rattle.ui_tree.specs.Spots.{tree_spot}
 use Rattle.ui_forms.specs.Sums.{Known, alone, followed, is_add, selected, term_of, terms_of}
 use Rattle.ui_forms.specs.Choosing.{GivesPart}
 use Rattle.ui_forms.specs.declared.part.Term.{Term}

@@ -4,13 +4,13 @@ use Rattle.std.specs.Prelude.{bytes_eq}
 use Rattle.std.specs.FinMap.{insert}
 use Rattle.std.proofs.lemmas.List.{drop_more, drop_all}
 use Rattle.ui_base.specs.declared.value.Spot.{Spot}
-use Rattle.ui_types.specs.declared.check_fault.FaultKind.TheVariants.{ConstTooBig}
-use Rattle.ui_types.specs.declared.check_fault.Fault.{Fault}
-use Rattle.ui_types.specs.declared.check_fault.CheckFault.{CheckFault}
-use Rattle.ui_types.specs.declared.check_fault.CheckFault.TheVariants.{NoMemory, Fault as Refused}
+use Rattle.ui_base.specs.declared.fault.FaultKind.TheVariants.{ConstTooBig}
+use Rattle.ui_base.specs.declared.fault.Fault.{Fault}
+use Rattle.ui_base.specs.declared.fault.CheckFault.{CheckFault}
+use Rattle.ui_base.specs.declared.fault.CheckFault.TheVariants.{NoMemory, Fault as Refused}
 use Rattle.ui_exports.specs.Export.{Declarations}
 use Rattle.ui_forms.specs.Numbers.{Numbered, has}
-use Rattle.ui_forms.specs.Steps.{and_then}
+use Rattle.ui_base.specs.Steps.{and_then}
 use Rattle.ui_forms.specs.Verdict.{Selection, IsRefusal, added, constant_value, fault_at, first_spot, sum_of, term_value}
 use Rattle.ui_forms.specs.declared.part.Term.{Term}
 use Rattle.ui_forms.specs.declared.part.ConstantSum.{ConstantSum}

@@ -8,11 +8,11 @@ use Rattle.std.specs.Cmp.Lexicographic.{slice_cmp, nat_list_cmp_total}
 use Rattle.std.specs.FinMap.{entries, len, empty, insert, entries-insert, len-entries, len-empty}
 use Rattle.std.specs.FinMap.Entries.{put, by_order}
 use Rattle.std.proofs.lemmas.Bool.{ltb-true}
-use Rattle.std.proofs.lemmas.List.{length-append}
-use Rattle.ui_types.specs.declared.check_fault.FaultKind.TheVariants.{ConstTooBig}
-use Rattle.ui_types.specs.declared.check_fault.Fault.{Fault}
+use Rattle.std.proofs.lemmas.List.{length-append, nil_from_length}
+use Rattle.ui_base.specs.declared.fault.FaultKind.TheVariants.{ConstTooBig}
+use Rattle.ui_base.specs.declared.fault.Fault.{Fault}
 use Rattle.ui_exports.specs.Export.{Declaration, Declarations, Export}
-use Rattle.ui_forms.specs.Steps.{and_then}
+use Rattle.ui_base.specs.Steps.{and_then}
 use Rattle.ui_forms.specs.Form.{Form, names}
 use Rattle.ui_forms.specs.Size.{IsSmallConstant, IsSmallEntry, IsSmallExport, IsSmallForm, IsSmallPart, is_some_text}
 use Rattle.ui_forms.specs.Laws.{ExportHasPath, ExportsAreSmall}
@@ -62,15 +62,11 @@ record IsSmallMap (limit : ℕ) (m : Declarations) : Type 0 where
   all : AllByRecursion IsSmallEntry (entries m)
   few : len m ≤ limit
 
-nothing_in : {X : Type 0} (xs : List X) → length xs ≡ 0 → xs ≡ []
-nothing_in [] h = refl
-nothing_in (x ∷ xs) h = absurd (omega (arith, h))
-
 empty-small : IsSmallMap 0 empty
 empty-small =
     let none : length (entries (empty {X = Declaration} {R = slice_cmp nat_cmp})) ≡ 0 = sym (len-entries empty) ∙ len-empty (slice_cmp nat_cmp) Declaration in
     record {
-      all = subst (AllByRecursion IsSmallEntry) (sym (nothing_in (entries (empty {X = Declaration} {R = slice_cmp nat_cmp})) none)) tt;
+      all = subst (AllByRecursion IsSmallEntry) (sym (nil_from_length (entries (empty {X = Declaration} {R = slice_cmp nat_cmp})) none)) tt;
       few = omega (arith, len-empty (slice_cmp nat_cmp) Declaration);
     }
 

@@ -2,13 +2,13 @@
 use Rattle.std.proofs.Common.{◌≡◌, ℕ, ◌+◌, ◌<◌, List, [], ◌∷◌, drop, length, get_or, Result, Ok, Err, refl, sym, ap, ◌∙◌}
 use Rattle.std.specs.FinMap.{empty, insert}
 use Rattle.std.proofs.lemmas.List.{drop_more}
-use Rattle.ui_types.specs.declared.check_fault.Fault.{Fault}
-use Rattle.ui_types.specs.declared.check_fault.CheckFault.{CheckFault}
-use Rattle.ui_types.specs.declared.check_fault.CheckFault.TheVariants.{NoMemory, Fault as Refused}
+use Rattle.ui_base.specs.declared.fault.Fault.{Fault}
+use Rattle.ui_base.specs.declared.fault.CheckFault.{CheckFault}
+use Rattle.ui_base.specs.declared.fault.CheckFault.TheVariants.{NoMemory, Fault as Refused}
 use Rattle.ui_exports.specs.Export.{Declarations, Export}
 use Rattle.ui_exports.specs.Constants.{declarations_of}
 use Rattle.ui_exports.specs.Linked.{Linked}
-use Rattle.ui_forms.specs.Steps.{and_then}
+use Rattle.ui_base.specs.Steps.{and_then}
 use Rattle.ui_forms.specs.Form.{Form}
 use Rattle.ui_forms.specs.Verdict.{Environment, IsRefusal, Selection, all_used, constant_value, declared, declared_from, environment_of, exported, parts_from, value_from, verdict}
 use Rattle.ui_forms.specs.Scope.{Scope, selection_of}

@@ -2,9 +2,9 @@
 use Rattle.std.specs.Prelude.{◌≡◌, ℕ, List, Result, Ok, Err}
 use Rattle.ui_base.specs.declared.value.Spot.{Spot}
 use Rattle.ui_base.specs.declared.value.Pos.{Pos}
-use Rattle.ui_types.specs.declared.check_fault.Fault.{Fault}
-use Rattle.ui_types.specs.declared.check_fault.CheckFault.{CheckFault}
-use Rattle.ui_types.specs.declared.check_fault.CheckFault.TheVariants as check
+use Rattle.ui_base.specs.declared.fault.Fault.{Fault}
+use Rattle.ui_base.specs.declared.fault.CheckFault.{CheckFault}
+use Rattle.ui_base.specs.declared.fault.CheckFault.TheVariants as check
 use Rattle.ui_forms.specs.Numbers.{Numbered, has}
 use Rattle.ui_forms.specs.Form.{is_among}
 use Rattle.ui_forms.specs.declared.fault.FormFault.{FormFault}

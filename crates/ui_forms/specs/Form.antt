@@ -15,8 +15,9 @@ use Rattle.ui_tree.specs.Stmt.{MaybeTrees, no_trees, given_trees, ValueGroup, co
 use Rattle.ui_tree.specs.StmtView.{file_view}
 use Rattle.ui_forms.specs.Words.{is_constant_name, is_package_name, last_segment}
 use Rattle.ui_forms.specs.Numbers.{Numbered}
-use Rattle.ui_forms.specs.Spots.{is_place, type_spot}
-use Rattle.ui_forms.specs.Steps.{and_then, each}
+use Rattle.ui_tree.specs.Spots.{type_spot}
+use Rattle.ui_forms.specs.Spots.{is_place}
+use Rattle.ui_base.specs.Steps.{and_then, each}
 use Rattle.ui_forms.specs.Sums.{Known, nothing, with_name, terms_of}
 use Rattle.ui_forms.specs.declared.part.Term.{Term}
 use Rattle.ui_forms.specs.declared.part.ImportPath.{ImportPath}

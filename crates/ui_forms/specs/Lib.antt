@@ -1,7 +1,6 @@
 pub mod Words
 pub mod Numbers
 pub mod Spots
-pub mod Steps
 pub mod Sums
 pub mod Form
 pub mod Size

@@ -11,8 +11,8 @@ use Rattle.ui_tree.specs.declared.part.LiteralKind.{LiteralKind}
 use Rattle.ui_tree.specs.declared.part.LiteralKind.TheVariants as kind
 use Rattle.ui_tree.specs.Tree.{Tree, literal, name, selector, binary}
 use Rattle.ui_forms.specs.Words.{is_constant_name}
-use Rattle.ui_forms.specs.Spots.{tree_spot}
-use Rattle.ui_forms.specs.Steps.{and_then}
+use Rattle.ui_tree.specs.Spots.{tree_spot}
+use Rattle.ui_base.specs.Steps.{and_then}
 use Rattle.ui_forms.specs.declared.part.Term.{Term}
 use Rattle.ui_forms.specs.declared.part.Term.TheVariants.{Digits, Own, Of}
 

@@ -5,15 +5,15 @@ use Rattle.std.specs.List.{list_any, find}
 use Rattle.std.specs.Option.{option_and_then}
 use Rattle.std.specs.FinMap.{get, insert, empty}
 use Rattle.ui_base.specs.declared.value.Spot.{Spot}
-use Rattle.ui_types.specs.declared.check_fault.FaultKind.{FaultKind}
-use Rattle.ui_types.specs.declared.check_fault.FaultKind.TheVariants.{ConstTooBig, Undefined, UnusedImport}
-use Rattle.ui_types.specs.declared.check_fault.Fault.{Fault}
-use Rattle.ui_types.specs.declared.check_fault.CheckFault.{CheckFault}
-use Rattle.ui_types.specs.declared.check_fault.CheckFault.TheVariants.{NoMemory, Fault as Refused}
+use Rattle.ui_base.specs.declared.fault.FaultKind.{FaultKind}
+use Rattle.ui_base.specs.declared.fault.FaultKind.TheVariants.{ConstTooBig, Undefined, UnusedImport}
+use Rattle.ui_base.specs.declared.fault.Fault.{Fault}
+use Rattle.ui_base.specs.declared.fault.CheckFault.{CheckFault}
+use Rattle.ui_base.specs.declared.fault.CheckFault.TheVariants.{NoMemory, Fault as Refused}
 use Rattle.ui_exports.specs.Export.{Declaration, Declarations, Export}
 use Rattle.ui_exports.specs.Linked.{Linked}
 use Rattle.ui_forms.specs.Words.{last_segment}
-use Rattle.ui_forms.specs.Steps.{and_then}
+use Rattle.ui_base.specs.Steps.{and_then}
 use Rattle.ui_forms.specs.Form.{Form, imported}
 use Rattle.ui_forms.specs.declared.part.Term.{Term}
 use Rattle.ui_forms.specs.declared.part.Term.TheVariants.{Digits, Own, Of}

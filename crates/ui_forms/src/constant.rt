@@ -12,12 +12,12 @@ ghost use Rattle.ui_forms.specs.Sums.{nothing};
 use crate::fault::PartFault;
 use crate::numbers::Numbers;
 use crate::part::ConstantSum;
-use crate::spots::{is_place, type_spot};
+use crate::spots::is_place;
 use crate::sums::terms_of;
 use crate::words::is_constant_name;
 use std::alloc::Global;
 use ui_base::Spot;
-use ui_tree::{CommonTree, DeclTree, ExprTree, Items, Placed, Specs, ValueSpec};
+use ui_tree::{CommonTree, DeclTree, ExprTree, Items, Placed, Specs, ValueSpec, type_spot};
 
 /// The most bytes of a constant's name.
 const NAME_LIMIT: usize = 4096;

@@ -3,7 +3,7 @@ ghost use Rattle.std.specs.Prelude.{◌≡◌, map};
 ghost use Rattle.ui_tree.specs.StmtView.{import_view};
 ghost use Rattle.ui_forms.specs.Choosing.{GivesPart};
 ghost use Rattle.ui_forms.specs.Form as form;
-ghost use Rattle.ui_forms.specs.Steps.{each};
+ghost use Rattle.ui_base.specs.Steps.{each};
 
 use crate::fault::PartFault;
 use crate::part::ImportPath;

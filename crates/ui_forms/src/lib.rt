@@ -30,6 +30,3 @@ pub use part::{ConstantSum, ImportPath, Part, Term};
 pub use ui_base::NoMemory;
 pub use verdict::check;
 pub use words::is_ascii_name;
-
-#[cfg(test)]
-mod tests;

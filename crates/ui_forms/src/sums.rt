@@ -8,11 +8,10 @@ ghost use Rattle.ui_forms.specs.Sums as sums;
 use crate::fault::PartFault;
 use crate::numbers::Numbers;
 use crate::part::Term;
-use crate::spots::tree_spot;
 use crate::words::is_constant_name;
 use std::alloc::Global;
 use ui_base::{BinOp, Spot, Text, Value};
-use ui_tree::{ExprTree, Items, LiteralKind, Placed};
+use ui_tree::{ExprTree, Items, LiteralKind, Placed, tree_spot};
 
 // A number of a literal.
 fn number_of(spot: Spot, value: &Value) -> Result<Term, PartFault>

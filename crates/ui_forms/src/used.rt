@@ -12,8 +12,7 @@ use crate::part::{ConstantSum, ImportPath, Part, Term};
 use crate::values::refusal;
 use crate::words::last_segment;
 use std::alloc::Global;
-use ui_base::NoMemory;
-use ui_types::{CheckFault, FaultKind};
+use ui_base::{CheckFault, FaultKind, NoMemory};
 
 // Adds the segment that a term is of.
 fn add_term(used: &mut Numbers, term: &Term) -> Result<(), NoMemory>

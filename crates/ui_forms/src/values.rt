@@ -2,17 +2,16 @@
 ghost use Rattle.std.specs.Prelude.{◌≡◌, ◌+◌, ◌^◌, ◌<◌, [], Ok, Some, None, nat_lt, if◌then◌else◌, IfOk, IfErr};
 ghost use Rattle.ui_forms.specs.Choosing.{IsFault};
 ghost use Rattle.ui_forms.specs.Scope.{selection_of};
-ghost use Rattle.ui_forms.specs.Steps.{and_then};
+ghost use Rattle.ui_base.specs.Steps.{and_then};
 ghost use Rattle.ui_forms.specs.Verdict as verdicts;
 ghost use Rattle.ui_forms.specs.Verdict.{IsRefusal, term_value, fault_at};
-ghost use Rattle.ui_types.specs.declared.check_fault.FaultKind.TheVariants.{ConstTooBig};
+ghost use Rattle.ui_base.specs.declared.fault.FaultKind.TheVariants.{ConstTooBig};
 
 use crate::part::{ConstantSum, Term};
 use crate::scope::Scope;
 use std::alloc::Global;
-use ui_base::{NoMemory, Pos, Spot, Text};
+use ui_base::{CheckFault, Fault, FaultKind, NoMemory, Pos, Spot, Text};
 use ui_exports::Package;
-use ui_types::{CheckFault, Fault, FaultKind};
 
 /// The greatest value of a constant, 2^127 - 1.
 const LIMIT: u128 = 0x7fff_ffff_ffff_ffff_ffff_ffff_ffff_ffff;

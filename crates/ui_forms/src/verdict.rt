@@ -4,7 +4,7 @@ ghost use Rattle.std.specs.FinMap.{insert, empty};
 ghost use Rattle.ui_exports.specs.Adding.{with_decls};
 ghost use Rattle.ui_forms.specs.Scope.{ArePlaces, selection_of};
 ghost use Rattle.ui_forms.specs.Size.{IsSmallExport};
-ghost use Rattle.ui_forms.specs.Steps.{and_then};
+ghost use Rattle.ui_base.specs.Steps.{and_then};
 ghost use Rattle.ui_forms.specs.Verdict as verdicts;
 ghost use Rattle.ui_forms.specs.Verdict.{environment_of, value_from, verdict, constant_value, declared_from, parts_from, IsRefusal};
 
@@ -15,9 +15,8 @@ use crate::scope::{Scope, places_of};
 use crate::used::check_imports;
 use crate::values;
 use std::alloc::Global;
-use ui_base::{NoMemory, Pos, Text};
+use ui_base::{CheckFault, NoMemory, Pos, Text};
 use ui_exports::{Constant, Linked, Package};
-use ui_types::CheckFault;
 
 // Declares a constant of a value.
 fn add_constant(

@@ -21,6 +21,3 @@ pub use section::Section;
 
 /// Want of memory.
 pub type NoMemory = std::alloc::AllocError;
-
-#[cfg(test)]
-mod tests;

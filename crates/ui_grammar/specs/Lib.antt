@@ -6,6 +6,3 @@ pub mod Fits
 pub mod Statement
 pub mod Declaration
 pub mod Parse
-pub mod Frames
-pub mod FramesStmt
-pub mod FramesDecl

@@ -15,9 +15,8 @@ use Rattle.ui_order.specs.StepLaws.{split}
 use Rattle.ui_order.specs.OrderFrom.{order_before, order_from-IsOrder}
 use Rattle.ui_order.specs.Found.{Text, Graph}
 use Rattle.ui_order.specs.Order.{build_order, arranged, cycle_or, cycle, paths}
-use Rattle.ui_order.specs.Numbers.{Links, linked, numbers, number_order, AreLinked}
+use Rattle.ui_order.specs.Numbers.{Links, linked, numbers, number_order, AreLinked, IsFirstOnCycle}
 use Rattle.ui_order.specs.Numbered.{path_at, AreLinksOf}
-use Rattle.ui_order.specs.Components.{IsFirstOnCycle}
 use Rattle.ui_order.proofs.NumberLemmas.{numbers-has}
 use Rattle.ui_order.proofs.BridgeLemmas.{all_linked, links_size, build_order-numbers, least_on_cycle-numbers}
 

@@ -18,9 +18,8 @@ use Rattle.ui_order.specs.StepLaws.{has-self, find-passes, none_found}
 use Rattle.ui_order.specs.OrderLaws.{len-keys, computes_cycles}
 use Rattle.ui_order.specs.Found.{Text, Graph, imports_of}
 use Rattle.ui_order.specs.Order.{build_order, on_cycle, least_on_cycle}
-use Rattle.ui_order.specs.Numbers.{Links, linked, numbers, number_order, AreLinked, IsNumberOnCycle}
+use Rattle.ui_order.specs.Numbers.{Links, linked, numbers, number_order, AreLinked, IsNumberOnCycle, IsFirstOnCycle}
 use Rattle.ui_order.specs.Numbered.{path_at, AreLinksOf}
-use Rattle.ui_order.specs.Components.{IsFirstOnCycle}
 use Rattle.ui_order.proofs.NumberLemmas.{numbers-has, linked-past}
 use Rattle.ui_order.proofs.PlanLemmas.{find-first, has_one}
 

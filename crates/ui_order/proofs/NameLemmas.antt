@@ -9,7 +9,7 @@ use Rattle.std.specs.List.Sorted.{IsStrictlySortedBy}
 use Rattle.std.specs.FinMap.{keys, get-from_entries}
 use Rattle.std.specs.FinMap.Entries.{find as find_entry}
 use Rattle.std.specs.Cmp.Lexicographic.{slice_cmp, nat_list_cmp_total}
-use Rattle.std.proofs.lemmas.List.{take_more, map-append}
+use Rattle.std.proofs.lemmas.List.{take_more, map-append, append-nil}
 use Rattle.std.proofs.lemmas.Map.Text.{is_eq-slice_cmp}
 use Rattle.std.proofs.lemmas.Slice.Eq.{bytes_eq-Decides}
 use Rattle.std.proofs.lemmas.Bool.{or_parts, or_from, or_left, or_right, true≢false, false_from_ne_true}
@@ -57,12 +57,8 @@ named_more ks k next rest all e sorted same =
     ∙ ap (λ x. map string_bytes ks ++ x ∷ map string_bytes rest) same
     ∙ e
 
-append_nothing : {X : Type 0} (xs : List X) → xs ++ [] ≡ xs
-append_nothing [] = refl
-append_nothing (x ∷ xs) = ap (λ ys. x ∷ ys) (append_nothing xs)
-
 pub named_all : (ks : List (String Global)) (all : List Text) → map string_bytes ks ++ [] ≡ all → map string_bytes ks ≡ all
-named_all ks all e = sym (append_nothing (map string_bytes ks)) ∙ e
+named_all ks all e = sym (append-nil (map string_bytes ks)) ∙ e
 
 pub keys-graph_of : (es : List Entry) → IsStrictlySortedBy string_cmp (map (λ e. e.0) es) → keys (graph_of es) ≡ map string_bytes (map (λ e. e.0) es)
 keys-graph_of es h = ap (map (λ e. e.0)) (entries-graph_of es h) ∙ keys_of_packages es
@@ -160,7 +156,7 @@ linked_asked entries paths left rest k v vs l e s closed all q h =
 pub linked_all : (entries : List Entry) (paths : List Text) (left : List Entry) (vs : Links) → Linked entries paths left vs → left ≡ [] → IsStrictlySortedBy string_cmp (map (λ e. e.0) entries) → paths ≡ keys (graph_of entries)
     → AreLinksOf (graph_of entries) paths paths vs
 linked_all entries paths left vs l none s all =
-    let whole : l.done ≡ entries = sym (append_nothing l.done) ∙ ap (λ xs. l.done ++ xs) (sym none) ∙ l.parts in
+    let whole : l.done ≡ entries = sym (append-nil l.done) ∙ ap (λ xs. l.done ++ xs) (sym none) ∙ l.parts in
     subst (λ xs. AreLinksOf (graph_of entries) paths xs vs) (ap (λ xs. map string_bytes (map (λ e. e.0) xs)) whole ∙ sym (keys-graph_of entries s) ∙ sym all) l.links
 
 pub texts_more : (paths : List Text) (ss : List (String Global)) (s : String Global) (ns : List ℕ) (i : ℕ) → i < length ns → map string_bytes ss ≡ map (path_at paths) (take i ns) → string_bytes s ≡ path_at paths (get_or ns i 0)

@@ -1,16 +1,11 @@
 -- Strongly connected components of a graph by numbers, found by one walk. H. N. Gabow, "Path-based depth-first search for
 -- strong and biconnected components", 2000.
-use Rattle.std.specs.Prelude.{◌≡◌, ◌⊎◌, ◌↔◌, ℕ, ◌+◌, ◌-◌, ◌<◌, ◌≤◌, Bool, true, false, nat_eq, List, [], ◌∷◌, ◌++◌, length, get_or, set, Option, Some, None}
+use Rattle.std.specs.Prelude.{◌≡◌, ◌⊎◌, ◌↔◌, ℕ, ◌+◌, ◌-◌, ◌<◌, ◌≤◌, Bool, true, false, nat_eq, List, [], ◌∷◌, ◌++◌, length, get_or, set}
 use Rattle.ui_order.specs.Steps.{has, Leads}
 use Rattle.ui_order.specs.Numbers.{Links, linked, IsNumberOnCycle}
 use Rattle.ui_order.specs.declared.cycle.Walk.{Walk}
 use Rattle.ui_order.specs.declared.cycle.Place.{Place}
 use Rattle.ui_order.specs.declared.cycle.Place.TheVariants.{Unseen, OnPath, Done}
-
--- the least number on a cycle
-abbrev pub IsFirstOnCycle : Links → Option ℕ → Type 0
-IsFirstOnCycle links None = (k : ℕ) → k < length links → IsNumberOnCycle links k → ⊥
-IsFirstOnCycle links (Some i) = (i < length links) × IsNumberOnCycle links i × ((k : ℕ) → k < i → IsNumberOnCycle links k → ⊥)
 
 -- where a number is
 abbrev pub place_in : List Place → ℕ → Place

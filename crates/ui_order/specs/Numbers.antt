@@ -1,6 +1,6 @@
 -- A graph by numbers: the number of a path is its place in ascending order, and its links are the numbers of its
 -- imports.
-use Rattle.std.specs.Prelude.{◌≡◌, ◌⊎◌, ℕ, zero, suc, ◌<◌, ◌≤◌, Bool, true, false, nat_eq, List, [], ◌∷◌, ◌++◌, length, get_or, Vec, Option, Some, find}
+use Rattle.std.specs.Prelude.{◌≡◌, ◌⊎◌, ℕ, zero, suc, ◌<◌, ◌≤◌, Bool, true, false, nat_eq, List, [], ◌∷◌, ◌++◌, length, get_or, Vec, Option, Some, None, find}
 use Rattle.std.specs.declared.alloc.Global.{Global}
 use Rattle.std.specs.Ordering.{nat_cmp}
 use Rattle.std.specs.List.{range_with_len}
@@ -29,6 +29,11 @@ number_order links = order_from nat_eq (linked links) (length links) (range_with
 
 abbrev pub IsNumberOnCycle : Links → ℕ → Type 0
 IsNumberOnCycle links i = Leads nat_eq (linked links) i i
+
+-- the least number on a cycle
+abbrev pub IsFirstOnCycle : Links → Option ℕ → Type 0
+IsFirstOnCycle links None = (k : ℕ) → k < length links → IsNumberOnCycle links k → ⊥
+IsFirstOnCycle links (Some i) = (i < length links) × IsNumberOnCycle links i × ((k : ℕ) → k < i → IsNumberOnCycle links k → ⊥)
 
 -- the sizes that a plan has, and what its numbers are below
 pub record AreSized (links : Links) (taken : List Bool) (at : List ℕ) (waiting : Links) (ready : BTreeSet ℕ) : Type 0 where

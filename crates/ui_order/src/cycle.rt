@@ -3,8 +3,8 @@
 ghost use Rattle.std.specs.Prelude.{◌≡◌, ◌↔◌, ◌<◌, ◌≤◌, ◌-◌, ◌++◌, ℕ, List, [], ◌∷◌, length, get_or, take, true, IfOk, OnOk, IsTrue, IsFalse, nat_eq, vec_len};
 ghost use Rattle.ui_order.specs.declared.cycle.Place.TheVariants.{Unseen};
 ghost use Rattle.ui_order.specs.Steps.{has};
-ghost use Rattle.ui_order.specs.Numbers.{Links, linked, AreLinked};
-ghost use Rattle.ui_order.specs.Components.{place_in, is_seen, is_done, IsRising, ArePlaced, AreTold, AreKept, IsWalk, IsWalkAt, IsEntered, IsClosed, IsFollowed, IsStep, IsAtRest, IsFirstOnCycle};
+ghost use Rattle.ui_order.specs.Numbers.{Links, linked, AreLinked, IsFirstOnCycle};
+ghost use Rattle.ui_order.specs.Components.{place_in, is_seen, is_done, IsRising, ArePlaced, AreTold, AreKept, IsWalk, IsWalkAt, IsEntered, IsClosed, IsFollowed, IsStep, IsAtRest};
 
 use std::alloc::Global;
 use ui_base::NoMemory;
@@ -184,8 +184,9 @@ fn walk_all(alloc: Global, links: &[Vec<usize>]) -> Result<Vec<Place>, NoMemory>
     Ok(places)
 }
 
-/// The least number on a cycle, in time linear in the links.
-pub(crate) fn first_on_cycle(alloc: Global, links: &[Vec<usize>]) -> Result<Option<usize>, NoMemory>
+/// The least number on a cycle, where `links[k]` are the numbers that `k` links to, in time linear in the links. A number
+/// that links to itself is on one.
+pub fn first_on_cycle(alloc: Global, links: &[Vec<usize>]) -> Result<Option<usize>, NoMemory>
     requires { AreLinked links.now }
     ensures { IfOk result (IsFirstOnCycle links.now) }
 {

@@ -15,7 +15,7 @@ use std::collections::BTreeMap;
 use ui_base::NoMemory;
 
 /// The build order, or a cycle of imports in its place.
-#[derive(Debug, Drop)]
+#[derive(Drop)]
 pub enum Order {
     /// The least path on a cycle.
     Cycle(String),

@@ -130,9 +130,10 @@ fn take_least(alloc: Global, plan: &mut Plan) -> Option<(usize, Vec<usize>)>
     Some((i, woken))
 }
 
-/// The order of numbers: repeatedly the least one whose links are all taken. Its time is linear in the links, but for
-/// the search tree of the ready numbers.
-pub(crate) fn in_order(alloc: Global, links: &[Vec<usize>]) -> Result<Vec<usize>, NoMemory>
+/// The order of the numbers from 0 to below the number of lists, where `links[k]` are the numbers that `k` links to:
+/// repeatedly the least one whose links are all taken. Numbers on a cycle and those that lead to one are left out. Its
+/// time is linear in the links, but for the search tree of the ready numbers.
+pub fn in_order(alloc: Global, links: &[Vec<usize>]) -> Result<Vec<usize>, NoMemory>
     requires { AreLinked links.now }
     ensures { IfOk result (λ order. order.items ≡ number_order links.now) }
 {

@@ -1,3 +1,12 @@
+pub mod SameKinds
+pub mod Outcomes
+pub mod Alike
+pub mod Steady
+pub mod TurnLaws
+pub mod Longest
+pub mod Peeks
+pub mod ListLaws
+pub mod NamesLaws
 pub mod Tags
 pub mod Words
 pub mod Readable

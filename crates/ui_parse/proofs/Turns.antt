@@ -46,7 +46,7 @@ module _ {S : Type 0} (separator close : TokenKind) (ending : Ending S) (post : 
       → PartRan separator close ending (Called post) s old.now (Err error) new.now
   part_stopped old new s r error p e = stopped error (called post old new s r (Err error) p e) refl
 
-fewer : (n : ℕ) → (n ≡ 0 → ⊥) → suc (n - 1) ≡ n
+pub fewer : (n : ℕ) → (n ≡ 0 → ⊥) → suc (n - 1) ≡ n
 fewer n some = omega (arith, some)
 
 module _ {S : Type 0} (separator close : TokenKind) (ending : Ending S) (ran : Ran S) where

@@ -1,14 +1,7 @@
 pub mod Kind
 pub mod Reader
 pub mod View
-pub mod Outcomes
-pub mod Alike
-pub mod Steady
-pub mod Turns
-pub mod Longest
 pub mod Cursor
-pub mod Peeks
 pub mod List
-pub mod ListLaws
 pub mod Names
-pub mod NamesLaws
+pub mod Exact

@@ -17,6 +17,11 @@ abbrev pub and_then : {A B : Type 0} → Outcome A → (A → Reader B) → Outc
 and_then (Ok p) f = f p.0 p.1
 and_then (Err ws) f = Err ws
 
+-- the words that are left, or those from the fault on
+abbrev pub rest_of : {A : Type 0} → Outcome A → List Word
+rest_of (Ok p) = p.1
+rest_of (Err ws) = ws
+
 infixl 10 ◌>>=◌
 abbrev pub ◌>>=◌ : {A B : Type 0} → Reader A → (A → Reader B) → Reader B
 p >>= f = λ ws. and_then (p ws) f

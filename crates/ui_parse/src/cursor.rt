@@ -108,7 +108,7 @@ fn named(alloc: Global, bytes: &[u8], token: &Token) -> Result<Option<Placed>, N
     if !is_name(token.kind) {
         return Ok(None);
     }
-    let text = Text::from_slice(alloc, &bytes[token.start..token.end])?;
+    let text = Text::from_slice(alloc, &bytes[token.start as usize..token.end as usize])?;
     Ok(Some(Placed {
         spot: spot_of(token),
         text,

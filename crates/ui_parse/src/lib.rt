@@ -14,6 +14,3 @@ pub use list::{chain, more_parts, parts};
 pub use literal::Literal;
 pub use names::more_names;
 pub use turn::{Ends, Turn};
-
-#[cfg(test)]
-mod tests;

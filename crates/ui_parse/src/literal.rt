@@ -4,7 +4,7 @@ use ui_base::{Spot, Value};
 use ui_tree::LiteralKind;
 
 /// A literal with its place and value.
-#[derive(Debug, Drop)]
+#[derive(Drop)]
 pub struct Literal {
     pub kind: LiteralKind,
     pub spot: Spot,

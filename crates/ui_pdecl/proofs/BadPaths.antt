@@ -14,7 +14,7 @@ use Rattle.ui_tree.specs.Stmt.{Imported, Import, File}
 use Rattle.ui_grammar.specs.Word.{Word, ident, lit, mark, word_of_kind, word_of, words, spot_at}
 use Rattle.ui_grammar.specs.Statement.{SpecsTail, SpecsList, SpellsSpecs}
 use Rattle.ui_grammar.specs.Declaration.{MaybeNamed, SpellsImported, SpellsImport, SpellsEach}
-use Rattle.ui_grammar.specs.FramesDecl.{frame_imported, frame_import}
+use Rattle.ui_grammar.proofs.FramesDecl.{frame_imported, frame_import}
 use Rattle.ui_grammar.specs.Parse.{HasFile}
 use Rattle.ui_pexpr.specs.Back.{kind_at}
 use Rattle.ui_pexpr.specs.Forms.{or_else}

@@ -11,8 +11,9 @@ use Rattle.ui_tree.specs.Stmt.{File}
 use Rattle.ui_grammar.specs.Word.{Word, lit, mark, word_of, words}
 use Rattle.ui_grammar.specs.Parse.{HasFile, IsFault}
 use Rattle.ui_parse.specs.Reader.{Outcome}
-use Rattle.ui_parse.specs.Longest.{fault}
-use Rattle.ui_stmts.specs.Decides.{whole_file, file_decides, one_file}
+use Rattle.ui_parse.proofs.Longest.{fault}
+use Rattle.ui_stmts.specs.Decls.{whole_file}
+use Rattle.ui_stmts.proofs.Decides.{file_decides, one_file}
 use Rattle.ui_pexpr.specs.declared.fault.ParseFault.{ParseFault}
 use Rattle.ui_pexpr.specs.declared.fault.ParseFault.TheVariants.{BadImportPath}
 use Rattle.ui_pexpr.specs.Faults.{StandsAt, IsKind}

@@ -9,15 +9,15 @@ use Rattle.ui_scan.specs.declared.kind.Token.{Token}
 use Rattle.ui_scan.specs.declared.kind.TokenKind.TheVariants.{End}
 use Rattle.ui_tree.specs.Stmt.{File}
 use Rattle.ui_grammar.specs.Word.{Word, mark, word_of, words}
-use Rattle.ui_grammar.specs.Frames.{framed}
-use Rattle.ui_grammar.specs.FramesDecl.{fill_file}
+use Rattle.ui_grammar.proofs.Frames.{framed}
+use Rattle.ui_grammar.proofs.FramesDecl.{fill_file}
 use Rattle.ui_grammar.specs.Parse.{HasFile, IsLive, IsLongest, IsFault, PassesDepth}
-use Rattle.ui_parse.specs.Reader.{Outcome}
-use Rattle.ui_parse.specs.Longest.{fault}
-use Rattle.ui_stmts.specs.Decls.{rest_of}
-use Rattle.ui_stmts.specs.Decides.{whole_file, file_decides}
+use Rattle.ui_parse.specs.Reader.{Outcome, rest_of}
+use Rattle.ui_parse.proofs.Longest.{fault}
+use Rattle.ui_stmts.specs.Decls.{whole_file}
+use Rattle.ui_stmts.proofs.Decides.{file_decides}
 use Rattle.ui_depth.specs.Laws.{IsFarther}
-use Rattle.ui_fdepth.specs.Passes.{file_shows_depth, file_passes_front}
+use Rattle.ui_depth.proofs.FilePasses.{file_shows_depth, file_passes_front}
 use Rattle.ui_pexpr.specs.declared.fault.Form.{Form}
 use Rattle.ui_pexpr.specs.declared.fault.ParseFault.{ParseFault}
 use Rattle.ui_pexpr.specs.BackLaws.{kind_of_token}

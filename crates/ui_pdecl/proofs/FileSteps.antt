@@ -11,7 +11,7 @@ use Rattle.ui_tree.specs.StmtView.{import_view, decl_view}
 use Rattle.ui_parse.specs.declared.fault.ParseError.{ParseError}
 use Rattle.ui_parse.specs.Reader.{Reader, ◌>>=◌, pure, expect, expect_name}
 use Rattle.ui_parse.specs.View.{Reads}
-use Rattle.ui_parse.specs.ListLaws.{reads_fault, reads_then}
+use Rattle.ui_parse.proofs.ListLaws.{reads_fault, reads_then}
 use Rattle.ui_stmts.specs.Decls.{maybe_import, decl_part, each, file}
 use Rattle.ui_pdecl.specs.declared.files.FileBody.{FileBody}
 use Rattle.ui_pdecl.specs.Seen.{see_file}

@@ -10,7 +10,7 @@ use Rattle.ui_parse.specs.declared.fault.ParseError.{ParseError}
 use Rattle.ui_parse.specs.Cursor.{after}
 use Rattle.ui_parse.specs.Reader.{Reader, ◌>>=◌, first, tail, taken, take_by, marked}
 use Rattle.ui_parse.specs.View.{Reads}
-use Rattle.ui_parse.specs.ListLaws.{reads_then}
+use Rattle.ui_parse.proofs.ListLaws.{reads_then}
 use Rattle.ui_stmts.specs.Decls.{receiver, method_behind, function}
 use Rattle.ui_psimple.specs.declared.deep.Deep.{Deep}
 use Rattle.ui_psimple.specs.Seen.{see_deep}

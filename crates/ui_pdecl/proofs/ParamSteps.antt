@@ -5,7 +5,7 @@ use Rattle.ui_tree.specs.declared.part.Placed.{Placed}
 use Rattle.ui_parse.specs.declared.fault.ParseError.{ParseError}
 use Rattle.ui_parse.specs.Reader.{◌>>=◌, pure, expect_name}
 use Rattle.ui_parse.specs.View.{Reads}
-use Rattle.ui_parse.specs.ListLaws.{reads_fault, reads_then}
+use Rattle.ui_parse.proofs.ListLaws.{reads_fault, reads_then}
 use Rattle.ui_ptype.specs.declared.sub.TypeSub.{TypeSub}
 use Rattle.ui_ptype.specs.Seen.{see_maybe}
 use Rattle.ui_stmts.specs.Decls as decls

@@ -9,7 +9,7 @@ use Rattle.ui_parse.specs.declared.fault.ParseError.{ParseError}
 use Rattle.ui_parse.specs.declared.fault.ParseError.TheVariants.{Fault}
 use Rattle.ui_parse.specs.Reader.{Outcome, Reader, and_then, expect}
 use Rattle.ui_parse.specs.View.{Reads}
-use Rattle.ui_parse.specs.ListLaws.{reads_fault}
+use Rattle.ui_parse.proofs.ListLaws.{reads_fault}
 use Rattle.ui_stmts.specs.Decls.{behind_each, each_from, each}
 
 read_is : {A X : Type 0} (see : X → A) (o : Outcome A) (x : X) (m : List Word) → Reads see o (Ok x) m → o ≡ Ok (see x, m)

@@ -6,10 +6,9 @@ use Rattle.ui_tree.specs.declared.decl.FileTree.{FileTree}
 use Rattle.ui_tree.specs.Stmt.{File}
 use Rattle.ui_tree.specs.StmtView.{import_view}
 use Rattle.ui_parse.specs.declared.fault.ParseError.TheVariants.{Fault}
-use Rattle.ui_parse.specs.Reader.{Outcome}
+use Rattle.ui_parse.specs.Reader.{Outcome, rest_of}
 use Rattle.ui_parse.specs.View.{Reads}
-use Rattle.ui_stmts.specs.Decls.{rest_of}
-use Rattle.ui_stmts.specs.Decides.{whole_file}
+use Rattle.ui_stmts.specs.Decls.{whole_file}
 use Rattle.ui_pexpr.specs.declared.fault.ParseFault.{ParseFault}
 use Rattle.ui_pexpr.specs.declared.fault.ParseFault.TheVariants.{NoMemory}
 use Rattle.ui_pexpr.specs.Forms.{none_left}

@@ -13,7 +13,8 @@ use Rattle.ui_scan.specs.declared.kind.TokenKind.TheVariants.{Str, End}
 use Rattle.ui_scan.specs.declared.place.Place.{Place}
 use Rattle.ui_scan.specs.Scan.{past, place_after, origin, due_after}
 use Rattle.ui_scan.specs.Tokens.{place_at, AreWords, ends_line, semicolon_before, with_semicolons, Tokens}
-use Rattle.ui_parse.specs.Kind.{is_kind, same_kind, kind_is}
+use Rattle.ui_parse.specs.Kind.{is_kind}
+use Rattle.ui_parse.proofs.SameKinds.{same_kind, kind_is}
 use Rattle.ui_pdecl.specs.FileResult.{is_string_at, string_at}
 
 -- ---- places behind others

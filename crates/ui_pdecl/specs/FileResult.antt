@@ -12,9 +12,8 @@ use Rattle.ui_tree.specs.Stmt.{Imported, Import, File}
 use Rattle.ui_tree.specs.StmtView.{file_view}
 use Rattle.ui_grammar.specs.Word.{Word, words}
 use Rattle.ui_parse.specs.Kind.{is_kind}
-use Rattle.ui_parse.specs.Reader.{Outcome}
-use Rattle.ui_stmts.specs.Decls.{rest_of}
-use Rattle.ui_stmts.specs.Decides.{whole_file}
+use Rattle.ui_parse.specs.Reader.{Outcome, rest_of}
+use Rattle.ui_stmts.specs.Decls.{whole_file}
 use Rattle.ui_pexpr.specs.declared.fault.ParseFault.{ParseFault}
 use Rattle.ui_pexpr.specs.declared.fault.ParseFault.TheVariants.{Unexpected, BadImportPath, NoMemory}
 use Rattle.ui_pexpr.specs.Faults.{first_offset, first_kind, told}

@@ -7,9 +7,9 @@ use Rattle.ui_tree.specs.Tree.{TypeTree}
 use Rattle.ui_tree.specs.Stmt.{TypeGroup, Decl, type_decl, no_groups, given_groups}
 use Rattle.ui_tree.specs.View.{groups, kept, types}
 use Rattle.ui_grammar.specs.Both.{continues, all_expressions}
-use Rattle.ui_parse.specs.Reader.{Outcome, Reader, ◌>>=◌, pure, take_by, marked}
+use Rattle.ui_parse.specs.Reader.{Outcome, Reader, ◌>>=◌, pure, take_by, marked, rest_of}
 use Rattle.ui_stmts.specs.Common.{Sized, sized, specs}
-use Rattle.ui_stmts.specs.Decls.{rest_of, farther, bracketed_group, generic_group, plain_group, type_params, func_behind, opened, type_spec, function}
+use Rattle.ui_stmts.specs.Decls.{farther, bracketed_group, generic_group, plain_group, type_params, func_behind, opened, type_spec, function}
 
 -- of the terms of a bound: the first goes on with an expression behind a name, and the others are expressions too
 abbrev pub continue_of : List TypeTree → Bool

@@ -2,7 +2,6 @@
 
 ghost use Rattle.std.specs.Prelude.{◌-◌, ◌<◌};
 ghost use Rattle.ui_parse.specs.View.{Reads};
-ghost use Rattle.ui_stmts.specs.Decides as decides;
 ghost use Rattle.ui_stmts.specs.Decls as spec;
 ghost use Rattle.ui_pdecl.specs.Seen.{see_file};
 
@@ -50,7 +49,7 @@ pub(crate) fn whole_file(
     budget: u32,
 ) -> Result<FileBody, ParseError>
     requires { 0 < budget }
-    ensures { Reads see_file (decides.whole_file (budget - 1) words.old) result words.new }
+    ensures { Reads see_file (spec.whole_file (budget - 1) words.old) result words.new }
 {
     let file = file(alloc, words, budget)?;
     words.expect(TokenKind::End)?;

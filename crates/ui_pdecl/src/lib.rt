@@ -18,6 +18,3 @@ mod type_specs;
 
 pub use api::parse_file;
 pub use laws::{file_faults_stay, file_result_decides};
-
-#[cfg(test)]
-mod tests;

@@ -67,7 +67,7 @@ pub(crate) fn string_at(spot: Spot, tokens: &[Token]) -> usize
 {
     for token in tokens {
         if is_string_at(spot, token) {
-            return token.start;
+            return token.start as usize;
         }
     }
     0

@@ -6,11 +6,11 @@ use Rattle.ui_tree.specs.declared.expr.ExprTree.{ExprTree}
 use Rattle.ui_tree.specs.View.{view, type_view}
 use Rattle.ui_grammar.specs.Word.{Word, words}
 use Rattle.ui_grammar.specs.Parse.{HasExpr, HasType, HasSig, PassesDepth}
-use Rattle.ui_parse.specs.Longest.{Decides}
+use Rattle.ui_parse.proofs.Longest.{Decides}
 use Rattle.ui_syntax.specs.Read.{expr, type, sig}
-use Rattle.ui_syntax.specs.Decides.{expr_decides, type_decides, sig_decides}
+use Rattle.ui_syntax.proofs.Decides.{expr_decides, type_decides, sig_decides}
 use Rattle.ui_depth.specs.Laws.{IsFarther, behind}
-use Rattle.ui_depth.specs.Passes.{tells_exprs, tells_types, tells_sigs}
+use Rattle.ui_depth.proofs.Passes.{tells_exprs, tells_types, tells_sigs}
 use Rattle.ui_pexpr.specs.declared.fault.ParseFault.{ParseFault}
 use Rattle.ui_pexpr.specs.Answers.{Answers}
 use Rattle.ui_pexpr.specs.Parsed.{Parsed, place}

@@ -5,7 +5,7 @@ use Rattle.ui_scan.specs.declared.kind.Token.{Token}
 use Rattle.ui_grammar.specs.Word.{Word, words, word_of}
 use Rattle.ui_grammar.specs.Parse.{IsFault, PassesDepth}
 use Rattle.ui_parse.specs.Reader.{Outcome, Reader}
-use Rattle.ui_parse.specs.Longest.{Decides, found_at, fault_at}
+use Rattle.ui_parse.proofs.Longest.{Decides, found_at, fault_at}
 use Rattle.ui_syntax.specs.Cover.{Read}
 use Rattle.ui_depth.specs.Laws.{IsFarther, behind}
 use Rattle.ui_pexpr.specs.declared.fault.ParseFault.{ParseFault}

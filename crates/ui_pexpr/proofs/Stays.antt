@@ -6,11 +6,11 @@ use Rattle.ui_tree.specs.Tree.{TypeTree, Tree}
 use Rattle.ui_grammar.specs.Word.{Word}
 use Rattle.ui_grammar.specs.Parse.{HasExpr, HasType, HasSig, IsLive, IsLongest, IsFault, PassesDepth}
 use Rattle.ui_parse.specs.Reader.{Outcome, Reader}
-use Rattle.ui_parse.specs.Longest.{Decides, fault}
+use Rattle.ui_parse.proofs.Longest.{Decides, fault}
 use Rattle.ui_syntax.specs.Read.{expr, type, sig}
-use Rattle.ui_syntax.specs.Decides.{type_decides, sig_decides}
+use Rattle.ui_syntax.proofs.Decides.{type_decides, sig_decides}
 use Rattle.ui_depth.specs.Laws.{IsFarther, behind}
-use Rattle.ui_depth.specs.Passes.{tells_types, tells_sigs}
+use Rattle.ui_depth.proofs.Passes.{tells_types, tells_sigs}
 use Rattle.ui_pexpr.specs.Faults.{NoDeeper}
 use Rattle.ui_pexpr.specs.KindLaws.{ReadsFault, reads_fault}
 use Rattle.ui_pexpr.specs.Parsed.{place}

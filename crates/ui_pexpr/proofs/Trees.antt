@@ -4,7 +4,7 @@ use Rattle.ui_tree.specs.Tree.{TypeTree, Tree}
 use Rattle.ui_grammar.specs.Word.{Word}
 use Rattle.ui_grammar.specs.Fits.{Place}
 use Rattle.ui_grammar.specs.Parse.{HasExpr, HasType, HasSig}
-use Rattle.ui_syntax.specs.Decides.{one_expr, one_type, one_sig}
+use Rattle.ui_syntax.proofs.Decides.{one_expr, one_type, one_sig}
 use Rattle.ui_pexpr.specs.Parsed.{place}
 use Rattle.ui_pexpr.specs.Laws.{HasOneExpr, HasOneType, HasOneSig}
 

@@ -6,7 +6,7 @@ use Rattle.ui_scan.specs.declared.kind.Token.{Token}
 use Rattle.ui_grammar.specs.Word.{Word}
 use Rattle.ui_grammar.specs.Parse.{IsLongest, IsFault, PassesDepth}
 use Rattle.ui_parse.specs.Reader.{Outcome, Reader}
-use Rattle.ui_parse.specs.Longest.{Decides, found, fault}
+use Rattle.ui_parse.proofs.Longest.{Decides, found, fault}
 use Rattle.ui_pexpr.specs.declared.fault.Form.{Form}
 use Rattle.ui_pexpr.specs.declared.fault.ParseFault.{ParseFault}
 use Rattle.ui_pexpr.specs.declared.fault.ParseFault.TheVariants.{Unexpected, TooDeep, Outside, BadImportPath, NoMemory}

@@ -73,7 +73,7 @@ pub fn first_offset(bytes: &[u8], tokens: &[Token]) -> usize
 {
     match tokens {
         [] => bytes.len(),
-        [first, ..] => first.start,
+        [first, ..] => first.start as usize,
     }
 }
 

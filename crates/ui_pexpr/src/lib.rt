@@ -14,6 +14,3 @@ pub use front::Front;
 pub use laws::{
     expr_faults_stay, one_expr_tree, one_sig_tree, one_type_tree, sig_faults_stay, type_faults_stay,
 };
-
-#[cfg(test)]
-mod tests;

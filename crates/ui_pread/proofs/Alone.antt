@@ -1,7 +1,7 @@
 -- Behind a first part between brackets that is a type alone.
-use Rattle.std.proofs.Common.{◌≡◌, ℕ, Bool, true, false, List, Option, Some, None, Result, Ok, Err, refl, sym, ap, subst, ◌∙◌}
+use Rattle.std.proofs.Common.{◌≡◌, ℕ, true, List, Option, Some, None, Result, Ok, refl, sym, subst}
 use Rattle.ui_grammar.specs.Word.{Word}
-use Rattle.ui_tree.specs.Tree.{TypeTree, Tree, type_arg}
+use Rattle.ui_tree.specs.Tree.{TypeTree, Tree}
 use Rattle.ui_parse.specs.declared.fault.ParseError.{ParseError}
 use Rattle.ui_base.specs.declared.value.Spot.{Spot}
 use Rattle.ui_scan.specs.declared.kind.TokenKind.TheVariants.{Comma}
@@ -10,7 +10,7 @@ use Rattle.ui_parse.specs.View.{Reads}
 use Rattle.ui_syntax.specs.Cover.{Read, only_type, as_type}
 use Rattle.ui_syntax.specs.Types.{Nested, only, more_args, args_behind, a_type}
 use Rattle.ui_syntax.specs.Exprs.{is_some, instance_of, instance_behind, behind_index}
-use Rattle.ui_syntax.specs.SoundTypesBracket.{only_is}
+use Rattle.ui_syntax.proofs.SoundTypesBracket.{only_is}
 use Rattle.ui_ptype.specs.declared.sub.Sub.{Sub}
 use Rattle.ui_ptype.specs.declared.sub.TypeSub.{TypeSub}
 use Rattle.ui_ptype.specs.Parts.{covered}

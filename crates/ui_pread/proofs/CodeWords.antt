@@ -1,13 +1,12 @@
 -- What the code takes of the next word, as its readers do.
-use Rattle.std.proofs.Common.{◌≡◌, ℕ, Bool, true, false, List, [], ◌∷◌, Option, Some, None, refl, sym, ap, ◌∙◌}
+use Rattle.std.proofs.Common.{◌≡◌, ℕ, List, [], ◌∷◌, refl}
 use Rattle.std.specs.Option.{option_map}
-use Rattle.ui_scan.specs.declared.kind.TokenKind.{TokenKind}
 use Rattle.ui_tree.specs.declared.part.LiteralKind.TheVariants as literal
 use Rattle.ui_grammar.specs.Word.{Word, ident, lit, mark}
-use Rattle.ui_grammar.specs.Operator.{operator_of, prefix_of}
+use Rattle.ui_grammar.specs.Operator.{operator_of}
 use Rattle.ui_parse.specs.declared.literal.Literal.{Literal as Taken}
 use Rattle.ui_parse.specs.Cursor.{kind_of, a_literal as taken_literal}
-use Rattle.ui_parse.specs.Peeks.{of_kind, next_by_kind}
+use Rattle.ui_parse.proofs.Peeks.{of_kind, next_by_kind}
 use Rattle.ui_parse.specs.Reader.{first}
 use Rattle.ui_syntax.specs.Exprs.{Literal, a_literal, an_operator, if_binds}
 

@@ -1,19 +1,19 @@
 -- What stands behind a type at the front of an operand, by what the code tests.
-use Rattle.std.proofs.Common.{◌≡◌, ℕ, ◌-◌, ◌<◌, ◌≤◌, Bool, true, false, not, ◌&&◌, List, Option, Some, None, Result, Ok, Err, refl, sym, ap, subst, ◌∙◌}
-use Rattle.std.specs.Prelude.{nat_le, if◌then◌else◌}
+use Rattle.std.proofs.Common.{◌≡◌, ℕ, ◌-◌, ◌<◌, ◌≤◌, true, false, List, Option, None, Result}
+use Rattle.std.specs.Prelude.{nat_le}
 use Rattle.ui_base.specs.declared.value.Spot.{Spot}
 use Rattle.ui_scan.specs.declared.kind.TokenKind.TheVariants.{LParen, LBrace}
 use Rattle.ui_grammar.specs.Word.{Word}
 use Rattle.ui_parse.specs.declared.fault.ParseError.{ParseError}
 use Rattle.ui_parse.specs.Cursor.{after}
-use Rattle.ui_parse.specs.Reader.{Reader, first, take_by, marked, refuse}
+use Rattle.ui_parse.specs.Reader.{first, marked, refuse}
 use Rattle.ui_parse.specs.View.{Reads}
 use Rattle.ui_syntax.specs.declared.site.Site.{Site}
 use Rattle.ui_ptype.specs.declared.sub.Sub.{Sub}
 use Rattle.ui_ptype.specs.declared.sub.TypeSub.{TypeSub}
-use Rattle.ui_syntax.specs.Cover.{Read, has_literals, is_counted}
+use Rattle.ui_syntax.specs.Cover.{has_literals, is_counted}
 use Rattle.ui_syntax.specs.Types.{Nested}
-use Rattle.ui_syntax.specs.Exprs.{alone, convert_or, literal_of, behind_type}
+use Rattle.ui_syntax.specs.Exprs.{alone, convert_or, behind_type}
 use Rattle.ui_ptype.specs.Seen.{see, see_type}
 use Rattle.ui_ptype.specs.Branches.{reads_on, reads_off, reads_missed, room_for, no_room}
 

@@ -1,12 +1,10 @@
 -- The loops of expressions, by their turns.
-use Rattle.std.proofs.Common.{◌≡◌, ℕ, zero, suc, Bool, true, false, cond, List, Option, Some, None, Result, Ok, Err, refl, sym, ap, subst, ◌∙◌}
+use Rattle.std.proofs.Common.{◌≡◌, ℕ, zero, suc, Bool, true, false, cond, List, Option, Some, None, Ok, Err, refl}
 use Rattle.ui_base.specs.declared.kind.BinOp.{BinOp}
 use Rattle.ui_scan.specs.declared.kind.TokenKind.TheVariants.{LParen, LBracket, LBrace, Period}
 use Rattle.ui_tree.specs.Tree.{TypeTree, Tree}
 use Rattle.ui_grammar.specs.Word.{Word}
 use Rattle.ui_grammar.specs.Operator.{level_of}
-use Rattle.ui_parse.specs.declared.turn.Turn.{Turn}
-use Rattle.ui_parse.specs.declared.turn.Turn.TheVariants.{Done, More}
 use Rattle.ui_parse.specs.Reader.{Outcome, Reader, and_then, pure, first, tail, taken, take_by, marked}
 use Rattle.ui_syntax.specs.declared.site.Site.{Site}
 use Rattle.ui_syntax.specs.Cover.{Read, as_type, if_named}

@@ -1,14 +1,14 @@
 -- Braces behind a type's name, by what the code tests.
-use Rattle.std.proofs.Common.{◌≡◌, ℕ, Bool, true, false, cond, List, Option, Some, None, Result, Ok, Err, refl, sym, ap, subst, ◌∙◌}
+use Rattle.std.proofs.Common.{◌≡◌, ℕ, Bool, true, false, cond, List, Option, Some, None, Result, Ok, refl, sym, ap, subst, ◌∙◌}
 use Rattle.ui_base.specs.declared.value.Spot.{Spot}
 use Rattle.ui_scan.specs.declared.kind.TokenKind.TheVariants.{LBrace}
 use Rattle.ui_tree.specs.Tree.{TypeTree, Tree, named, parenthesized, pointer, slice, array, counted, mapping, func, listed, struct, interface, method, union, tilde}
 use Rattle.ui_grammar.specs.Word.{Word}
 use Rattle.ui_parse.specs.declared.fault.ParseError.{ParseError}
 use Rattle.ui_parse.specs.declared.turn.Turn.{Turn}
-use Rattle.ui_parse.specs.declared.turn.Turn.TheVariants.{Done, More}
+use Rattle.ui_parse.specs.declared.turn.Turn.TheVariants.{Done}
 use Rattle.ui_parse.specs.Cursor.{after}
-use Rattle.ui_parse.specs.Reader.{Reader, and_then, first, take_by, marked}
+use Rattle.ui_parse.specs.Reader.{Reader, and_then, first, marked}
 use Rattle.ui_parse.specs.View.{Reads}
 use Rattle.ui_syntax.specs.declared.site.Site.{Site}
 use Rattle.ui_ptype.specs.declared.sub.Sub.{Sub}

@@ -6,7 +6,7 @@ use Rattle.ui_parse.specs.declared.turn.Turn.{Turn}
 use Rattle.ui_parse.specs.declared.turn.Turn.TheVariants.{Done, More}
 use Rattle.ui_parse.specs.Reader.{Outcome, Reader, and_then, pure}
 use Rattle.ui_parse.specs.View.{Reads}
-use Rattle.ui_parse.specs.ListLaws.{reads_fault, reads_then}
+use Rattle.ui_parse.proofs.ListLaws.{reads_fault}
 use Rattle.ui_pread.specs.Turns.{see_turn}
 
 abbrev pub after_turn : {V : Type 0} → (V → Reader V) → Turn V → Reader V

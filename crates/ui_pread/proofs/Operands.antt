@@ -1,5 +1,5 @@
 -- Operands, by what the code takes of the next word.
-use Rattle.std.proofs.Common.{◌≡◌, ℕ, Bool, List, Option, Some, None, Result, Ok, Err, refl, sym, ap, ◌∙◌}
+use Rattle.std.proofs.Common.{◌≡◌, ℕ, List, Option, Some, None, Result, Ok, refl, sym, ap, ◌∙◌}
 use Rattle.std.specs.Prelude.{nat_le, if◌then◌else◌}
 use Rattle.std.specs.Option.{option_map}
 use Rattle.ui_scan.specs.declared.kind.TokenKind.TheVariants.{LParen}
@@ -15,10 +15,10 @@ use Rattle.ui_syntax.specs.declared.site.Site.{Site}
 use Rattle.ui_ptype.specs.declared.sub.Sub.{Sub}
 use Rattle.ui_syntax.specs.Cover.{Read}
 use Rattle.ui_syntax.specs.Types.{Nested}
-use Rattle.ui_syntax.specs.Exprs.{Literal, a_literal, of_tree, operand, parenthesized_operand, type_operand}
+use Rattle.ui_syntax.specs.Exprs.{a_literal, of_tree, operand, parenthesized_operand, type_operand}
 use Rattle.ui_ptype.specs.Seen.{see}
 use Rattle.ui_pread.proofs.CodeWords.{seen_literal, literals}
-use Rattle.ui_ptype.specs.Branches.{reads_on, reads_off, reads_took, reads_missed}
+use Rattle.ui_ptype.specs.Branches.{reads_took, reads_missed}
 
 after_seen : (x : Option Taken) (ws : List Word) → after x ws ≡ after (option_map seen_literal x) ws
 after_seen None ws = refl

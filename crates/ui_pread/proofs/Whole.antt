@@ -1,10 +1,9 @@
 -- Loops of expressions as parts of their readers: the number of turns is that of the budget and one.
-use Rattle.std.proofs.Common.{◌≡◌, ℕ, suc, ◌-◌, ◌<◌, List, Result, Ok, Err, sym, subst, arith}
+use Rattle.std.proofs.Common.{ℕ, suc, ◌-◌, ◌<◌, List, Result, Ok, subst}
 use Rattle.ui_grammar.specs.Word.{Word}
 use Rattle.ui_parse.specs.declared.fault.ParseError.{ParseError}
-use Rattle.ui_parse.specs.Reader.{and_then}
 use Rattle.ui_parse.specs.View.{Reads}
-use Rattle.ui_parse.specs.ListLaws.{reads_then}
+use Rattle.ui_parse.proofs.ListLaws.{reads_then}
 use Rattle.ui_syntax.specs.declared.site.Site.{Site}
 use Rattle.ui_ptype.specs.declared.sub.Sub.{Sub}
 use Rattle.ui_syntax.specs.Exprs.{operand, suffixes, primary, unary_expr, operations, level}

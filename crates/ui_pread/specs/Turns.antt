@@ -1,12 +1,11 @@
 -- The turns of the loops of expressions, as the code takes them.
-use Rattle.std.specs.Prelude.{ℕ, suc, Bool, true, false, not, ◌&&◌, Option, Some, None, nat_le, if◌then◌else◌, Result, Ok, Err}
+use Rattle.std.specs.Prelude.{ℕ, suc, Bool, not, ◌&&◌, Option, Some, None, nat_le, if◌then◌else◌}
 use Rattle.ui_scan.specs.declared.kind.TokenKind.TheVariants.{LParen, LBracket, LBrace, Period}
-use Rattle.ui_base.specs.declared.kind.BinOp.{BinOp}
 use Rattle.ui_tree.specs.Tree.{TypeTree, Tree}
 use Rattle.ui_grammar.specs.Operator.{level_of}
 use Rattle.ui_parse.specs.declared.turn.Turn.{Turn}
 use Rattle.ui_parse.specs.declared.turn.Turn.TheVariants.{Done, More}
-use Rattle.ui_parse.specs.Reader.{Reader, ◌>>=◌, and_then, pure, take_by, marked}
+use Rattle.ui_parse.specs.Reader.{Reader, ◌>>=◌, pure, take_by, marked}
 use Rattle.ui_syntax.specs.declared.site.Site.{Site}
 use Rattle.ui_syntax.specs.Cover.{Read, only_type, as_type, if_named}
 use Rattle.ui_syntax.specs.Types.{Nested, of_type}

@@ -14,9 +14,9 @@ use crate::exprs::Exprs;
 use std::alloc::Global;
 use ui_base::{NoMemory, Spot};
 use ui_parse::{Cursor, ParseError, parts};
-use ui_ptype::{Sub, Subs, TypeSub, deeper, expr_sub};
+use ui_ptype::{Ask, Got, Sub, expr_over};
 use ui_scan::TokenKind;
-use ui_syntax::{Site, TypeSite};
+use ui_syntax::Site;
 use ui_tree::{ExprTree, Items};
 
 /// The arguments of a call; `...` stood behind the last where it is spread.
@@ -60,25 +60,29 @@ impl Arguments {
     }
 }
 
-impl<E, T, B> Exprs<E, T, B>
+impl<F> Exprs<F>
 where
-    E: Fn(Global, &mut Cursor<'_>, u32, Site, u8) -> Result<Sub, ParseError>,
-    T: Fn(Global, &mut Cursor<'_>, u32, TypeSite) -> Result<Option<TypeSub>, ParseError>,
-    B: Fn(Global, &mut Cursor<'_>, u32) -> Result<Subs, ParseError>,
+    F: Fn(Global, &mut Cursor<'_>, u32, Ask) -> Result<Got, ParseError>,
 {
     // Arg [ "..." ]
     #[tactic(auto, unfolding(ui_syntax::specs::Exprs::argument, ui_parse::specs::Reader::eat, ui_parse::specs::Reader::take_by))]
     fn argument(&self, words: &mut Cursor<'_>, args: Arguments) -> Result<Arguments, ParseError>
-        requires { Nests self.now.types.budget (E.pre self.now.types.level) (E.post self.now.types.level) (T.pre self.now.types.maybe_type) (T.post self.now.types.maybe_type) (B.pre self.now.types.braces) (B.post self.now.types.braces) }
+        requires { Nests self.now.types.budget (F.pre self.now.types.part) (F.post self.now.types.part) }
         ensures { Reads see_arguments (spec.argument (self.now.types.budget - 1) (readers (self.now.types.budget - 1)) (see_arguments args) words.old) result words.new }
     {
-        let next = self.types.level_at(words, Site::Argument, 1)?;
+        let next = match self.types.level_at(words, Site::Argument, 1) {
+            Ok(next) => next,
+            Err(fault) => return Err(fault),
+        };
         let spread = words.take(TokenKind::Ellipsis);
-        Ok(args.add(next, spread)?)
+        match args.add(next, spread) {
+            Ok(args) => Ok(args),
+            Err(_) => Err(ParseError::NoMemory),
+        }
     }
 
     fn argument_list(&self, words: &mut Cursor<'_>) -> Result<Arguments, ParseError>
-        requires { Nests self.now.types.budget (E.pre self.now.types.level) (E.post self.now.types.level) (T.pre self.now.types.maybe_type) (T.post self.now.types.maybe_type) (B.pre self.now.types.braces) (B.post self.now.types.braces) }
+        requires { Nests self.now.types.budget (F.pre self.now.types.part) (F.post self.now.types.part) }
         ensures { Reads see_arguments (reader.parts Comma RParen spec.call_ending (spec.argument (self.now.types.budget - 1) (readers (self.now.types.budget - 1))) spec.no_arguments words.old) result words.new }
     {
         let args = Arguments::new(self.types.alloc);
@@ -94,16 +98,19 @@ where
     // Behind "(".
     #[tactic(auto, unfolding(ui_syntax::specs::Exprs::called))]
     pub(crate) fn called(&self, words: &mut Cursor<'_>, of: Sub) -> Result<Sub, ParseError>
-        requires { Nests self.now.types.budget (E.pre self.now.types.level) (E.post self.now.types.level) (T.pre self.now.types.maybe_type) (T.post self.now.types.maybe_type) (B.pre self.now.types.braces) (B.post self.now.types.braces) }
+        requires { Nests self.now.types.budget (F.pre self.now.types.part) (F.post self.now.types.part) }
         ensures { Reads see (spec.called (self.now.types.budget - 1) (readers (self.now.types.budget - 1)) (see of) words.old) result words.new }
     {
-        let args = self.argument_list(words)?;
-        let depth = deeper(of.depth.max(args.depth))?;
-        Ok(expr_sub(
-            self.types.alloc,
-            ExprTree::call(of.spot, of.tree, args.items, args.spread),
-            of.spot,
-            depth,
-        )?)
+        let args = match self.argument_list(words) {
+            Ok(args) => args,
+            Err(fault) => return Err(fault),
+        };
+        let depth = of.depth.max(args.depth);
+        let spot = of.spot;
+        let tree = ExprTree::call(spot, of.tree, args.items, args.spread);
+        match expr_over(self.types.alloc, tree, spot, depth) {
+            Ok(of) => Ok(of),
+            Err(_) => Err(ParseError::NoMemory),
+        }
     }
 }

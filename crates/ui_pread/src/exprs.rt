@@ -1,6 +1,9 @@
 //! Expressions, by descent and climbing. Go specification, "Operators".
 
-ghost use Rattle.std.specs.Prelude.{◌≡◌, ◌-◌, suc};
+ghost use Rattle.std.specs.Prelude.{◌≡◌, ◌-◌, IfOk, suc};
+ghost use Rattle.ui_syntax.specs.Exprs.{of_tree};
+ghost use Rattle.ui_tree.specs.Tree.{pointer, type_arg};
+ghost use Rattle.ui_tree.specs.View.{type_view};
 ghost use Rattle.ui_pread.specs.Seen.{see_prefix};
 ghost use Rattle.ui_pread.specs.Turns.{see_turn, operation_turn};
 ghost use Rattle.ui_ptype.specs.Seen.{see};
@@ -12,28 +15,38 @@ ghost use Rattle.ui_syntax.specs.Read.{readers};
 use crate::marks::{Prefix, take_operator, take_prefix};
 use crate::sites::{operand_site, prefix_site};
 use std::alloc::Global;
+use ui_base::{NoMemory, Spot};
 use ui_grammar::level_of;
 use ui_parse::{Cursor, ParseError, Turn};
-use ui_ptype::{Grammar, Sub, Subs, TypeSub, deeper, expr_sub, into_type_alone, is_type_alone};
-use ui_syntax::{Site, TypeSite};
+use ui_ptype::{Ask, Got, Grammar, Sub, expr_over, into_type_alone, is_type_alone};
+use ui_syntax::Site;
 use ui_tree::{Boxed, ExprTree, TypeExpr};
 
 /// The readers of expressions of a budget, over those of types.
 #[derive(Clone, Copy)]
-pub(crate) struct Exprs<E, T, B>
+pub(crate) struct Exprs<F>
 where
-    E: Fn(Global, &mut Cursor<'_>, u32, Site, u8) -> Result<Sub, ParseError>,
-    T: Fn(Global, &mut Cursor<'_>, u32, TypeSite) -> Result<Option<TypeSub>, ParseError>,
-    B: Fn(Global, &mut Cursor<'_>, u32) -> Result<Subs, ParseError>,
+    F: Fn(Global, &mut Cursor<'_>, u32, Ask) -> Result<Got, ParseError>,
 {
-    pub types: Grammar<E, T, B>,
+    pub types: Grammar<F>,
 }
 
-impl<E, T, B> Exprs<E, T, B>
+// A pointer to the type, which stands alone.
+fn pointer_alone(
+    alloc: Global,
+    spot: Spot,
+    of: Boxed<TypeExpr>,
+    depth: u32,
+) -> Result<Sub, NoMemory>
+    ensures { IfOk result (λ s. see s ≡ of_tree (type_arg (pointer spot (type_view of))) spot (suc depth)) }
+{
+    let pointer = Boxed::new(alloc, TypeExpr::pointer(spot, of))?;
+    expr_over(alloc, ExprTree::type_arg(pointer), spot, depth)
+}
+
+impl<F> Exprs<F>
 where
-    E: Fn(Global, &mut Cursor<'_>, u32, Site, u8) -> Result<Sub, ParseError>,
-    T: Fn(Global, &mut Cursor<'_>, u32, TypeSite) -> Result<Option<TypeSub>, ParseError>,
-    B: Fn(Global, &mut Cursor<'_>, u32) -> Result<Subs, ParseError>,
+    F: Fn(Global, &mut Cursor<'_>, u32, Ask) -> Result<Got, ParseError>,
 {
     #[tactic(auto, unfolding(ui_syntax::specs::Exprs::prefixed))]
     fn prefixed(
@@ -42,32 +55,34 @@ where
         site: Site,
         prefix: Prefix,
     ) -> Result<Sub, ParseError>
-        requires { Nests self.now.types.budget (E.pre self.now.types.level) (E.post self.now.types.level) (T.pre self.now.types.maybe_type) (T.post self.now.types.maybe_type) (B.pre self.now.types.braces) (B.post self.now.types.braces) }
+        requires { Nests self.now.types.budget (F.pre self.now.types.part) (F.post self.now.types.part) }
         ensures { Reads see (spec.prefixed (self.now.types.budget - 1) (readers (self.now.types.budget - 1)) site (see_prefix prefix) words.old) result words.new }
     {
         let Prefix { op, spot } = prefix;
-        let of = self.types.level_at(words, prefix_site(op, site), 6)?;
-        let depth = deeper(of.depth)?;
+        let of = match self.types.level_at(words, prefix_site(op, site), 6) {
+            Ok(of) => of,
+            Err(fault) => return Err(fault),
+        };
+        let depth = of.depth;
         if !is_type_alone(of.tree.get()) {
-            return Ok(expr_sub(
-                self.types.alloc,
-                ExprTree::unary(spot, op, of.tree),
-                spot,
-                depth,
-            )?);
+            let tree = ExprTree::unary(spot, op, of.tree);
+            return match expr_over(self.types.alloc, tree, spot, depth) {
+                Ok(of) => Ok(of),
+                Err(_) => Err(ParseError::NoMemory),
+            };
         }
-        match into_type_alone(of.tree) {
-            Some(of) => {
-                let pointer = Boxed::new(self.types.alloc, TypeExpr::pointer(spot, of))?;
-                Ok(expr_sub(self.types.alloc, ExprTree::type_arg(pointer), spot, depth)?)
-            }
-            None => Err(ParseError::Fault),
+        let Some(of) = into_type_alone(of.tree) else {
+            return Err(ParseError::Fault);
+        };
+        match pointer_alone(self.types.alloc, spot, of, depth) {
+            Ok(of) => Ok(of),
+            Err(_) => Err(ParseError::NoMemory),
         }
     }
 
     #[tactic(auto, using(crate::proofs::Prefixes::unary_low, crate::proofs::Prefixes::unary_prefix, crate::proofs::Prefixes::unary_plain))]
     fn unary_expr(&self, words: &mut Cursor<'_>, site: Site) -> Result<Sub, ParseError>
-        requires { Nests self.now.types.budget (E.pre self.now.types.level) (E.post self.now.types.level) (T.pre self.now.types.maybe_type) (T.post self.now.types.maybe_type) (B.pre self.now.types.braces) (B.post self.now.types.braces) }
+        requires { Nests self.now.types.budget (F.pre self.now.types.part) (F.post self.now.types.part) }
         ensures { Reads see (spec.unary_expr (self.now.types.budget - 1) (readers (self.now.types.budget - 1)) site words.old) result words.new }
     {
         if self.types.budget < 2 {
@@ -88,22 +103,24 @@ where
         least: u8,
         left: Sub,
     ) -> Result<Turn<Sub>, ParseError>
-        requires { Nests self.now.types.budget (E.pre self.now.types.level) (E.post self.now.types.level) (T.pre self.now.types.maybe_type) (T.post self.now.types.maybe_type) (B.pre self.now.types.braces) (B.post self.now.types.braces) }
+        requires { Nests self.now.types.budget (F.pre self.now.types.part) (F.post self.now.types.part) }
         ensures { Reads (see_turn see) (operation_turn (self.now.types.budget - 1) (readers (self.now.types.budget - 1)) site least (see left) words.old) result words.new }
     {
         let Some(op) = take_operator(words, least) else {
             return Ok(Turn::Done(left));
         };
-        let right = self
-            .types
-            .level_at(words, operand_site(site), level_of(op) + 1)?;
-        let depth = deeper(left.depth.max(right.depth))?;
-        Ok(Turn::More(expr_sub(
-            self.types.alloc,
-            ExprTree::binary(left.spot, op, left.tree, right.tree),
-            left.spot,
-            depth,
-        )?))
+        let tighter = level_of(op) + 1;
+        let right = match self.types.level_at(words, operand_site(site), tighter) {
+            Ok(right) => right,
+            Err(fault) => return Err(fault),
+        };
+        let spot = left.spot;
+        let depth = left.depth.max(right.depth);
+        let tree = ExprTree::binary(spot, op, left.tree, right.tree);
+        match expr_over(self.types.alloc, tree, spot, depth) {
+            Ok(of) => Ok(Turn::More(of)),
+            Err(_) => Err(ParseError::NoMemory),
+        }
     }
 
     fn operations(
@@ -113,16 +130,17 @@ where
         least: u8,
         left: Sub,
     ) -> Result<Sub, ParseError>
-        requires { Nests self.now.types.budget (E.pre self.now.types.level) (E.post self.now.types.level) (T.pre self.now.types.maybe_type) (T.post self.now.types.maybe_type) (B.pre self.now.types.braces) (B.post self.now.types.braces) }
+        requires { Nests self.now.types.budget (F.pre self.now.types.part) (F.post self.now.types.part) }
         ensures { Reads see (spec.operations (self.now.types.budget - 1) (readers (self.now.types.budget - 1)) site least (suc self.now.types.budget) (see left) words.old) result words.new }
     {
         let mut left = left;
         // Each turn makes the tree deeper.
         let mut turns = self.types.budget;
         while self.has_room(&left) {
-            match self.operation(words, site, least, left)? {
-                Turn::Done(last) => return Ok(last),
-                Turn::More(next) => left = next,
+            match self.operation(words, site, least, left) {
+                Ok(Turn::Done(last)) => return Ok(last),
+                Ok(Turn::More(next)) => left = next,
+                Err(fault) => return Err(fault),
             }
             if turns == 0 {
                 return Ok(left);
@@ -139,10 +157,13 @@ where
         site: Site,
         least: u8,
     ) -> Result<Sub, ParseError>
-        requires { Nests self.now.types.budget (E.pre self.now.types.level) (E.post self.now.types.level) (T.pre self.now.types.maybe_type) (T.post self.now.types.maybe_type) (B.pre self.now.types.braces) (B.post self.now.types.braces) }
+        requires { Nests self.now.types.budget (F.pre self.now.types.part) (F.post self.now.types.part) }
         ensures { Reads see (spec.level (self.now.types.budget - 1) (readers (self.now.types.budget - 1)) site least words.old) result words.new }
     {
-        let left = self.unary_expr(words, site)?;
+        let left = match self.unary_expr(words, site) {
+            Ok(left) => left,
+            Err(fault) => return Err(fault),
+        };
         self.operations(words, site, least, left)
     }
 }

@@ -15,9 +15,9 @@ use crate::exprs::Exprs;
 use std::alloc::Global;
 use ui_base::NoMemory;
 use ui_parse::{Cursor, ParseError};
-use ui_ptype::{Sub, Subs, TypeSub, TypeSubs, deeper, expr_sub, is_type, is_type_alone};
+use ui_ptype::{Ask, Got, Sub, TypeSubs, cover_type, expr_over, is_type, is_type_alone};
 use ui_scan::TokenKind;
-use ui_syntax::{Site, TypeSite};
+use ui_syntax::Site;
 use ui_tree::{Boxed, ExprTree};
 
 // The tree of a bound with its depth.
@@ -37,11 +37,9 @@ fn bound(of: Option<Sub>) -> (Option<Boxed<ExprTree>>, u32)
     }
 }
 
-impl<E, T, B> Exprs<E, T, B>
+impl<F> Exprs<F>
 where
-    E: Fn(Global, &mut Cursor<'_>, u32, Site, u8) -> Result<Sub, ParseError>,
-    T: Fn(Global, &mut Cursor<'_>, u32, TypeSite) -> Result<Option<TypeSub>, ParseError>,
-    B: Fn(Global, &mut Cursor<'_>, u32) -> Result<Subs, ParseError>,
+    F: Fn(Global, &mut Cursor<'_>, u32, Ask) -> Result<Got, ParseError>,
 {
     fn slice_of(
         &self,
@@ -55,13 +53,10 @@ where
         let (low, low_depth) = bound(low);
         let (high, high_depth) = bound(high);
         let (most, most_depth) = bound(most);
-        let depth = deeper(of.depth.max(low_depth.max(high_depth.max(most_depth))))?;
-        expr_sub(
-            self.types.alloc,
-            ExprTree::sliced(of.spot, of.tree, low, high, most),
-            of.spot,
-            depth,
-        )
+        let spot = of.spot;
+        let depth = of.depth.max(low_depth.max(high_depth.max(most_depth)));
+        let tree = ExprTree::sliced(spot, of.tree, low, high, most);
+        expr_over(self.types.alloc, tree, spot, depth)
     }
 
     // Behind the second ":".
@@ -72,12 +67,20 @@ where
         low: Option<Sub>,
         high: Sub,
     ) -> Result<Sub, ParseError>
-        requires { Nests self.now.types.budget (E.pre self.now.types.level) (E.post self.now.types.level) (T.pre self.now.types.maybe_type) (T.post self.now.types.maybe_type) (B.pre self.now.types.braces) (B.post self.now.types.braces) }
+        requires { Nests self.now.types.budget (F.pre self.now.types.part) (F.post self.now.types.part) }
         ensures { Reads see (spec.third_bound (self.now.types.budget - 1) (readers (self.now.types.budget - 1)) (see of) (see_bound low) (bound_depth low) (see high) words.old) result words.new }
     {
-        let most = self.types.an_expr(words)?;
-        words.expect(TokenKind::RBracket)?;
-        Ok(self.slice_of(of, low, Some(high), Some(most))?)
+        let most = match self.types.an_expr(words) {
+            Ok(most) => most,
+            Err(fault) => return Err(fault),
+        };
+        if let Err(fault) = words.expect(TokenKind::RBracket) {
+            return Err(fault);
+        }
+        match self.slice_of(of, low, Some(high), Some(most)) {
+            Ok(of) => Ok(of),
+            Err(_) => Err(ParseError::NoMemory),
+        }
     }
 
     #[tactic(auto, unfolding(ui_parse::specs::Reader::take_by))]
@@ -88,37 +91,49 @@ where
         low: Option<Sub>,
         high: Sub,
     ) -> Result<Sub, ParseError>
-        requires { Nests self.now.types.budget (E.pre self.now.types.level) (E.post self.now.types.level) (T.pre self.now.types.maybe_type) (T.post self.now.types.maybe_type) (B.pre self.now.types.braces) (B.post self.now.types.braces) }
+        requires { Nests self.now.types.budget (F.pre self.now.types.part) (F.post self.now.types.part) }
         ensures { Reads see (spec.second_bound (self.now.types.budget - 1) (readers (self.now.types.budget - 1)) (see of) (see_bound low) (bound_depth low) (see high) words.old) result words.new }
     {
         if words.take(TokenKind::Colon).is_some() {
             return self.third_bound(words, of, low, high);
         }
-        words.expect(TokenKind::RBracket)?;
-        Ok(self.slice_of(of, low, Some(high), None)?)
+        if let Err(fault) = words.expect(TokenKind::RBracket) {
+            return Err(fault);
+        }
+        match self.slice_of(of, low, Some(high), None) {
+            Ok(of) => Ok(of),
+            Err(_) => Err(ParseError::NoMemory),
+        }
     }
 
     // Behind the first ":".
     #[tactic(auto, unfolding(ui_syntax::specs::Exprs::bounds, ui_parse::specs::Reader::take_by))]
     fn bounds(&self, words: &mut Cursor<'_>, of: Sub, low: Option<Sub>) -> Result<Sub, ParseError>
-        requires { Nests self.now.types.budget (E.pre self.now.types.level) (E.post self.now.types.level) (T.pre self.now.types.maybe_type) (T.post self.now.types.maybe_type) (B.pre self.now.types.braces) (B.post self.now.types.braces) }
+        requires { Nests self.now.types.budget (F.pre self.now.types.part) (F.post self.now.types.part) }
         ensures { Reads see (spec.bounds (self.now.types.budget - 1) (readers (self.now.types.budget - 1)) (see of) (see_bound low) (bound_depth low) words.old) result words.new }
     {
         if words.take(TokenKind::RBracket).is_some() {
-            return Ok(self.slice_of(of, low, None, None)?);
+            return match self.slice_of(of, low, None, None) {
+                Ok(of) => Ok(of),
+                Err(_) => Err(ParseError::NoMemory),
+            };
         }
-        let high = self.types.an_expr(words)?;
+        let high = match self.types.an_expr(words) {
+            Ok(high) => high,
+            Err(fault) => return Err(fault),
+        };
         self.second_bound(words, of, low, high)
     }
 
     fn instance_of(&self, of: Sub, args: TypeSubs) -> Result<Sub, NoMemory>
         ensures { IfOk result (λ s. see s ≡ spec.instance_of (self.now.types.budget - 1) (readers (self.now.types.budget - 1)) (see of) (see_types args)) }
     {
-        let depth = deeper(of.depth.max(args.depth))?;
-        expr_sub(
+        let spot = of.spot;
+        let depth = of.depth.max(args.depth);
+        expr_over(
             self.types.alloc,
-            ExprTree::instance(of.spot, of.tree, args.items),
-            of.spot,
+            ExprTree::instance(spot, of.tree, args.items),
+            spot,
             depth,
         )
     }
@@ -126,22 +141,31 @@ where
     // A comma and more arguments, where the first is a type.
     #[tactic(auto, unfolding(ui_parse::specs::Reader::take_by, ui_parse::specs::Reader::expect))]
     fn instance_behind(&self, words: &mut Cursor<'_>, of: Sub, at: Sub) -> Result<Sub, ParseError>
-        requires { Nests self.now.types.budget (E.pre self.now.types.level) (E.post self.now.types.level) (T.pre self.now.types.maybe_type) (T.post self.now.types.maybe_type) (B.pre self.now.types.braces) (B.post self.now.types.braces) }
+        requires { Nests self.now.types.budget (F.pre self.now.types.part) (F.post self.now.types.part) }
         ensures { Reads see (spec.instance_behind (self.now.types.budget - 1) (readers (self.now.types.budget - 1)) (see of) at.depth (as_type (see at).tree) words.old) result words.new }
     {
         if !is_type(at.tree.get()) {
             return Err(ParseError::Fault);
         }
         words.expect(TokenKind::Comma)?;
-        let first = self.types.cover_type(words, at)?;
-        let args = self.types.args_behind(words, false, first)?;
-        Ok(self.instance_of(of, args)?)
+        let first = match cover_type(self.types.alloc, words, at) {
+            Ok(first) => first,
+            Err(fault) => return Err(fault),
+        };
+        let args = match self.types.args_behind(words, false, first) {
+            Ok(args) => args,
+            Err(fault) => return Err(fault),
+        };
+        match self.instance_of(of, args) {
+            Ok(of) => Ok(of),
+            Err(_) => Err(ParseError::NoMemory),
+        }
     }
 
     // Behind the first part between brackets, which is an expression.
     #[tactic(auto, unfolding(ui_parse::specs::Reader::take_by))]
     fn behind_expr(&self, words: &mut Cursor<'_>, of: Sub, at: Sub) -> Result<Sub, ParseError>
-        requires { Nests self.now.types.budget (E.pre self.now.types.level) (E.post self.now.types.level) (T.pre self.now.types.maybe_type) (T.post self.now.types.maybe_type) (B.pre self.now.types.braces) (B.post self.now.types.braces) }
+        requires { Nests self.now.types.budget (F.pre self.now.types.part) (F.post self.now.types.part) }
         ensures { Reads see (spec.behind_index (self.now.types.budget - 1) (readers (self.now.types.budget - 1)) (see of) (see at) None words.old) result words.new }
     {
         if words.take(TokenKind::Colon).is_some() {
@@ -150,39 +174,55 @@ where
         if words.take(TokenKind::RBracket).is_none() {
             return self.instance_behind(words, of, at);
         }
-        let depth = deeper(of.depth.max(at.depth))?;
-        Ok(expr_sub(
+        let depth = of.depth.max(at.depth);
+        let spot = of.spot;
+        match expr_over(
             self.types.alloc,
-            ExprTree::index(of.spot, of.tree, at.tree),
-            of.spot,
+            ExprTree::index(spot, of.tree, at.tree),
+            spot,
             depth,
-        )?)
+        ) {
+            Ok(of) => Ok(of),
+            Err(_) => Err(ParseError::NoMemory),
+        }
     }
 
     // Behind the first part between brackets.
     #[tactic(auto, using(crate::proofs::Alone::alone_is, crate::proofs::Alone::behind_types))]
     fn behind_index(&self, words: &mut Cursor<'_>, of: Sub, at: Sub) -> Result<Sub, ParseError>
-        requires { Nests self.now.types.budget (E.pre self.now.types.level) (E.post self.now.types.level) (T.pre self.now.types.maybe_type) (T.post self.now.types.maybe_type) (B.pre self.now.types.braces) (B.post self.now.types.braces) }
+        requires { Nests self.now.types.budget (F.pre self.now.types.part) (F.post self.now.types.part) }
         ensures { Reads see (spec.behind_index (self.now.types.budget - 1) (readers (self.now.types.budget - 1)) (see of) (see at) (only_type (see at).tree) words.old) result words.new }
     {
         if !is_type_alone(at.tree.get()) {
             return self.behind_expr(words, of, at);
         }
-        let first = self.types.cover_type(words, at)?;
-        let args = self.types.more_args(words, false, first)?;
-        Ok(self.instance_of(of, args)?)
+        let first = match cover_type(self.types.alloc, words, at) {
+            Ok(first) => first,
+            Err(fault) => return Err(fault),
+        };
+        let args = match self.types.more_args(words, false, first) {
+            Ok(args) => args,
+            Err(fault) => return Err(fault),
+        };
+        match self.instance_of(of, args) {
+            Ok(of) => Ok(of),
+            Err(_) => Err(ParseError::NoMemory),
+        }
     }
 
     // Behind "[".
     #[tactic(auto, unfolding(ui_syntax::specs::Exprs::indexed, ui_parse::specs::Reader::take_by))]
     pub(crate) fn indexed(&self, words: &mut Cursor<'_>, of: Sub) -> Result<Sub, ParseError>
-        requires { Nests self.now.types.budget (E.pre self.now.types.level) (E.post self.now.types.level) (T.pre self.now.types.maybe_type) (T.post self.now.types.maybe_type) (B.pre self.now.types.braces) (B.post self.now.types.braces) }
+        requires { Nests self.now.types.budget (F.pre self.now.types.part) (F.post self.now.types.part) }
         ensures { Reads see (spec.indexed (self.now.types.budget - 1) (readers (self.now.types.budget - 1)) (see of) words.old) result words.new }
     {
         if words.take(TokenKind::Colon).is_some() {
             return self.bounds(words, of, None);
         }
-        let at = self.types.level_at(words, Site::Argument, 1)?;
+        let at = match self.types.level_at(words, Site::Argument, 1) {
+            Ok(at) => at,
+            Err(fault) => return Err(fault),
+        };
         self.behind_index(words, of, at)
     }
 }

@@ -1,6 +1,8 @@
 //! Elements of literals, behind the brace. Go specification, "Composite literals".
 
-ghost use Rattle.std.specs.Prelude.{◌≡◌, ◌-◌};
+ghost use Rattle.std.specs.Prelude.{◌≡◌, ◌-◌, IfOk, max};
+ghost use Rattle.ui_syntax.specs.Types.{add};
+ghost use Rattle.ui_tree.specs.Tree.{keyed};
 ghost use Rattle.ui_ptype.specs.Seen.{see, see_all};
 ghost use Rattle.ui_parse.specs.View.{Reads};
 ghost use Rattle.ui_ptype.specs.Nests.{Nests};
@@ -9,22 +11,29 @@ ghost use Rattle.ui_syntax.specs.Read.{readers};
 
 use crate::exprs::Exprs;
 use std::alloc::Global;
+use ui_base::NoMemory;
 use ui_parse::{Cursor, ParseError, parts};
-use ui_ptype::{Sub, Subs, TypeSub, deeper, expr_sub};
+use ui_ptype::{Ask, Got, Sub, Subs, expr_over};
 use ui_scan::TokenKind;
-use ui_syntax::{Site, TypeSite};
 use ui_tree::{Boxed, ExprTree};
 
-impl<E, T, B> Exprs<E, T, B>
+// One more element, with its key.
+fn add_keyed(alloc: Global, elems: Subs, key: Sub, value: Sub) -> Result<Subs, NoMemory>
+    ensures { IfOk result (λ l. see_all l ≡ add (see_all elems) (keyed key.spot (see key).tree (see value).tree) (max key.depth value.depth)) }
+{
+    let depth = key.depth.max(value.depth);
+    let tree = Boxed::new(alloc, ExprTree::keyed(key.spot, key.tree, value.tree))?;
+    elems.add(tree, depth)
+}
+
+impl<F> Exprs<F>
 where
-    E: Fn(Global, &mut Cursor<'_>, u32, Site, u8) -> Result<Sub, ParseError>,
-    T: Fn(Global, &mut Cursor<'_>, u32, TypeSite) -> Result<Option<TypeSub>, ParseError>,
-    B: Fn(Global, &mut Cursor<'_>, u32) -> Result<Subs, ParseError>,
+    F: Fn(Global, &mut Cursor<'_>, u32, Ask) -> Result<Got, ParseError>,
 {
     // Expr | Lit
     #[tactic(auto, unfolding(ui_parse::specs::Reader::take_by))]
     fn item(&self, words: &mut Cursor<'_>) -> Result<Sub, ParseError>
-        requires { Nests self.now.types.budget (E.pre self.now.types.level) (E.post self.now.types.level) (T.pre self.now.types.maybe_type) (T.post self.now.types.maybe_type) (B.pre self.now.types.braces) (B.post self.now.types.braces) }
+        requires { Nests self.now.types.budget (F.pre self.now.types.part) (F.post self.now.types.part) }
         ensures { Reads see (spec.item (self.now.types.budget - 1) (readers (self.now.types.budget - 1)) words.old) result words.new }
     {
         if self.types.budget < 2 {
@@ -32,13 +41,14 @@ where
         }
         match words.take(TokenKind::LBrace) {
             Some(spot) => {
-                let Subs { items, depth } = self.types.nested_braces(words)?;
-                Ok(expr_sub(
-                    self.types.alloc,
-                    ExprTree::elided(spot, items),
-                    spot,
-                    deeper(depth)?,
-                )?)
+                let Subs { items, depth } = match self.types.nested_braces(words) {
+                    Ok(elems) => elems,
+                    Err(fault) => return Err(fault),
+                };
+                match expr_over(self.types.alloc, ExprTree::elided(spot, items), spot, depth) {
+                    Ok(of) => Ok(of),
+                    Err(_) => Err(ParseError::NoMemory),
+                }
             }
             None => self.types.an_expr(words),
         }
@@ -47,25 +57,32 @@ where
     // [ Item ":" ] Item
     #[tactic(auto, unfolding(ui_syntax::specs::Exprs::elem, ui_parse::specs::Reader::take_by))]
     fn elem(&self, words: &mut Cursor<'_>, elems: Subs) -> Result<Subs, ParseError>
-        requires { Nests self.now.types.budget (E.pre self.now.types.level) (E.post self.now.types.level) (T.pre self.now.types.maybe_type) (T.post self.now.types.maybe_type) (B.pre self.now.types.braces) (B.post self.now.types.braces) }
+        requires { Nests self.now.types.budget (F.pre self.now.types.part) (F.post self.now.types.part) }
         ensures { Reads see_all (spec.elem (self.now.types.budget - 1) (readers (self.now.types.budget - 1)) (see_all elems) words.old) result words.new }
     {
-        let first = self.item(words)?;
+        let first = match self.item(words) {
+            Ok(first) => first,
+            Err(fault) => return Err(fault),
+        };
         if words.take(TokenKind::Colon).is_none() {
-            return Ok(elems.add(first.tree, first.depth)?);
+            return match elems.add(first.tree, first.depth) {
+                Ok(elems) => Ok(elems),
+                Err(_) => Err(ParseError::NoMemory),
+            };
         }
-        let value = self.item(words)?;
-        let depth = first.depth.max(value.depth);
-        let keyed = Boxed::new(
-            self.types.alloc,
-            ExprTree::keyed(first.spot, first.tree, value.tree),
-        )?;
-        Ok(elems.add(keyed, depth)?)
+        let value = match self.item(words) {
+            Ok(value) => value,
+            Err(fault) => return Err(fault),
+        };
+        match add_keyed(self.types.alloc, elems, first, value) {
+            Ok(elems) => Ok(elems),
+            Err(_) => Err(ParseError::NoMemory),
+        }
     }
 
     #[tactic(auto, unfolding(ui_syntax::specs::Exprs::braces))]
     pub(crate) fn own_braces(&self, words: &mut Cursor<'_>) -> Result<Subs, ParseError>
-        requires { Nests self.now.types.budget (E.pre self.now.types.level) (E.post self.now.types.level) (T.pre self.now.types.maybe_type) (T.post self.now.types.maybe_type) (B.pre self.now.types.braces) (B.post self.now.types.braces) }
+        requires { Nests self.now.types.budget (F.pre self.now.types.part) (F.post self.now.types.part) }
         ensures { Reads see_all (spec.braces (self.now.types.budget - 1) (readers (self.now.types.budget - 1)) words.old) result words.new }
     {
         let elems = Subs::new(self.types.alloc);

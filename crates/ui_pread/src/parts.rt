@@ -7,7 +7,7 @@ ghost use Rattle.ui_ptype.specs.Seen.{see, see_type, see_maybe, see_groups, see_
 ghost use Rattle.ui_syntax.specs.Read.{readers, expr, type as the_type, sig as the_sig};
 ghost use Rattle.ui_syntax.specs.Types as spec;
 
-use crate::knot::{braces, level, maybe_type};
+use crate::knot::{level, maybe_type, part};
 use crate::sites::place_of;
 use std::alloc::Global;
 use ui_base::Spot;
@@ -53,9 +53,7 @@ pub fn sig(alloc: Global, words: &mut Cursor<'_>, budget: u32) -> Result<TypeSub
     Grammar {
         alloc,
         budget,
-        level,
-        maybe_type,
-        braces,
+        part,
     }
     .sig_type(words, spot)
 }
@@ -68,9 +66,7 @@ pub fn params(alloc: Global, words: &mut Cursor<'_>, budget: u32) -> Result<Grou
     Grammar {
         alloc,
         budget,
-        level,
-        maybe_type,
-        braces,
+        part,
     }
     .params(words)
 }
@@ -87,9 +83,7 @@ pub fn results(
     Grammar {
         alloc,
         budget,
-        level,
-        maybe_type,
-        braces,
+        part,
     }
     .results(words)
 }
@@ -108,9 +102,7 @@ pub fn bracket_type(
     Grammar {
         alloc,
         budget,
-        level,
-        maybe_type,
-        braces,
+        part,
     }
     .bracket_type(words, site, spot)
 }
@@ -127,9 +119,7 @@ pub fn plain_type(
     Grammar {
         alloc,
         budget,
-        level,
-        maybe_type,
-        braces,
+        part,
     }
     .plain_type(words)
 }
@@ -147,9 +137,7 @@ pub fn union_from(
     Grammar {
         alloc,
         budget,
-        level,
-        maybe_type,
-        braces,
+        part,
     }
     .union_from(words, first)
 }
@@ -167,9 +155,7 @@ pub fn tilde(
     Grammar {
         alloc,
         budget,
-        level,
-        maybe_type,
-        braces,
+        part,
     }
     .tilde(words, spot)
 }

@@ -1,6 +1,8 @@
 //! What follows an operand. Go specification, "Primary expressions".
 
-ghost use Rattle.std.specs.Prelude.{◌≡◌, ◌-◌, ◌<◌, suc};
+ghost use Rattle.std.specs.Prelude.{◌≡◌, ◌-◌, ◌<◌, IfOk, suc};
+ghost use Rattle.ui_syntax.specs.Exprs.{of_tree};
+ghost use Rattle.ui_tree.specs.Tree.{selector};
 ghost use Rattle.ui_pread.specs.Turns.{see_turn, goes_on, suffix_turn, literal_turn, named_literal};
 ghost use Rattle.ui_ptype.specs.Seen.{see};
 ghost use Rattle.ui_syntax.specs.Cover.{as_type, if_named};
@@ -12,58 +14,86 @@ ghost use Rattle.ui_syntax.specs.Read.{readers};
 use crate::exprs::Exprs;
 use crate::sites::is_header;
 use std::alloc::Global;
+use ui_base::NoMemory;
 use ui_parse::{Cursor, ParseError, Turn};
-use ui_ptype::{Sub, Subs, TypeSub, deeper, expr_sub, is_named_type, is_type_alone};
+use ui_ptype::{Ask, Got, Sub, cover_type, expr_over, is_named_type, is_type_alone};
 use ui_scan::TokenKind;
-use ui_syntax::{Site, TypeSite};
-use ui_tree::ExprTree;
+use ui_syntax::Site;
+use ui_tree::{ExprTree, Placed};
 
-impl<E, T, B> Exprs<E, T, B>
+fn selector_of(alloc: Global, of: Sub, member: Placed) -> Result<Sub, NoMemory>
+    ensures { IfOk result (λ s. see s ≡ of_tree (selector of.spot (see of).tree member) of.spot (suc of.depth)) }
+{
+    let spot = of.spot;
+    let depth = of.depth;
+    expr_over(
+        alloc,
+        ExprTree::selector(spot, of.tree, member),
+        spot,
+        depth,
+    )
+}
+
+impl<F> Exprs<F>
 where
-    E: Fn(Global, &mut Cursor<'_>, u32, Site, u8) -> Result<Sub, ParseError>,
-    T: Fn(Global, &mut Cursor<'_>, u32, TypeSite) -> Result<Option<TypeSub>, ParseError>,
-    B: Fn(Global, &mut Cursor<'_>, u32) -> Result<Subs, ParseError>,
+    F: Fn(Global, &mut Cursor<'_>, u32, Ask) -> Result<Got, ParseError>,
 {
     fn asserted(&self, words: &mut Cursor<'_>, of: Sub) -> Result<Sub, ParseError>
-        requires { Nests self.now.types.budget (E.pre self.now.types.level) (E.post self.now.types.level) (T.pre self.now.types.maybe_type) (T.post self.now.types.maybe_type) (B.pre self.now.types.braces) (B.post self.now.types.braces) }
+        requires { Nests self.now.types.budget (F.pre self.now.types.part) (F.post self.now.types.part) }
         ensures { Reads see (spec.asserted (self.now.types.budget - 1) (readers (self.now.types.budget - 1)) (see of) words.old) result words.new }
     {
-        words.expect(TokenKind::LParen)?;
-        let to = self.types.a_type(words)?;
-        words.expect(TokenKind::RParen)?;
-        let depth = deeper(of.depth.max(to.depth))?;
-        Ok(expr_sub(
+        if let Err(fault) = words.expect(TokenKind::LParen) {
+            return Err(fault);
+        }
+        let to = match self.types.a_type(words) {
+            Ok(to) => to,
+            Err(fault) => return Err(fault),
+        };
+        if let Err(fault) = words.expect(TokenKind::RParen) {
+            return Err(fault);
+        }
+        let depth = of.depth.max(to.depth);
+        let spot = of.spot;
+        match expr_over(
             self.types.alloc,
-            ExprTree::assert(of.spot, of.tree, to.tree),
-            of.spot,
+            ExprTree::assert(spot, of.tree, to.tree),
+            spot,
             depth,
-        )?)
+        ) {
+            Ok(of) => Ok(of),
+            Err(_) => Err(ParseError::NoMemory),
+        }
     }
 
     // Behind ".".
     #[tactic(auto, unfolding(ui_syntax::specs::Exprs::selected, ui_parse::specs::Reader::take_by))]
     fn selected(&self, words: &mut Cursor<'_>, of: Sub) -> Result<Sub, ParseError>
-        requires { Nests self.now.types.budget (E.pre self.now.types.level) (E.post self.now.types.level) (T.pre self.now.types.maybe_type) (T.post self.now.types.maybe_type) (B.pre self.now.types.braces) (B.post self.now.types.braces) }
+        requires { Nests self.now.types.budget (F.pre self.now.types.part) (F.post self.now.types.part) }
         ensures { Reads see (spec.selected (self.now.types.budget - 1) (readers (self.now.types.budget - 1)) (see of) words.old) result words.new }
     {
-        match words.take_name(self.types.alloc)? {
-            Some(member) => Ok(expr_sub(
-                self.types.alloc,
-                ExprTree::selector(of.spot, of.tree, member),
-                of.spot,
-                deeper(of.depth)?,
-            )?),
-            None => self.asserted(words, of),
+        match words.take_name(self.types.alloc) {
+            Ok(Some(member)) => match selector_of(self.types.alloc, of, member) {
+                Ok(of) => Ok(of),
+                Err(_) => Err(ParseError::NoMemory),
+            },
+            Ok(None) => self.asserted(words, of),
+            Err(_) => Err(ParseError::NoMemory),
         }
     }
 
     // Behind "{", where the expression is a type's name.
     fn named_literal(&self, words: &mut Cursor<'_>, of: Sub) -> Result<Turn<Sub>, ParseError>
-        requires { Nests self.now.types.budget (E.pre self.now.types.level) (E.post self.now.types.level) (T.pre self.now.types.maybe_type) (T.post self.now.types.maybe_type) (B.pre self.now.types.braces) (B.post self.now.types.braces) }
+        requires { Nests self.now.types.budget (F.pre self.now.types.part) (F.post self.now.types.part) }
         ensures { Reads (see_turn see) (named_literal (self.now.types.budget - 1) (readers (self.now.types.budget - 1)) (see of) words.old) result words.new }
     {
-        let of = self.types.cover_type(words, of)?;
-        Ok(Turn::More(self.literal_of(words, of)?))
+        let of = match cover_type(self.types.alloc, words, of) {
+            Ok(of) => of,
+            Err(fault) => return Err(fault),
+        };
+        match self.literal_of(words, of) {
+            Ok(of) => Ok(Turn::More(of)),
+            Err(fault) => Err(fault),
+        }
     }
 
     // Braces, where the expression is a type's name.
@@ -74,7 +104,7 @@ where
         site: Site,
         of: Sub,
     ) -> Result<Turn<Sub>, ParseError>
-        requires { Nests self.now.types.budget (E.pre self.now.types.level) (E.post self.now.types.level) (T.pre self.now.types.maybe_type) (T.post self.now.types.maybe_type) (B.pre self.now.types.braces) (B.post self.now.types.braces) }
+        requires { Nests self.now.types.budget (F.pre self.now.types.part) (F.post self.now.types.part) }
         ensures { Reads (see_turn see) (literal_turn (self.now.types.budget - 1) (readers (self.now.types.budget - 1)) site (see of) (if_named (as_type (see of).tree)) words.old) result words.new }
     {
         if is_header(site) {
@@ -97,17 +127,26 @@ where
         site: Site,
         of: Sub,
     ) -> Result<Turn<Sub>, ParseError>
-        requires { Nests self.now.types.budget (E.pre self.now.types.level) (E.post self.now.types.level) (T.pre self.now.types.maybe_type) (T.post self.now.types.maybe_type) (B.pre self.now.types.braces) (B.post self.now.types.braces) }
+        requires { Nests self.now.types.budget (F.pre self.now.types.part) (F.post self.now.types.part) }
         ensures { Reads (see_turn see) (suffix_turn (self.now.types.budget - 1) (readers (self.now.types.budget - 1)) site (see of) words.old) result words.new }
     {
         if words.take(TokenKind::Period).is_some() {
-            return Ok(Turn::More(self.selected(words, of)?));
+            return match self.selected(words, of) {
+                Ok(of) => Ok(Turn::More(of)),
+                Err(fault) => Err(fault),
+            };
         }
         if words.take(TokenKind::LBracket).is_some() {
-            return Ok(Turn::More(self.indexed(words, of)?));
+            return match self.indexed(words, of) {
+                Ok(of) => Ok(Turn::More(of)),
+                Err(fault) => Err(fault),
+            };
         }
         if words.take(TokenKind::LParen).is_some() {
-            return Ok(Turn::More(self.called(words, of)?));
+            return match self.called(words, of) {
+                Ok(of) => Ok(Turn::More(of)),
+                Err(fault) => Err(fault),
+            };
         }
         self.literal_or(words, site, of)
     }
@@ -121,16 +160,17 @@ where
     }
 
     fn suffixes(&self, words: &mut Cursor<'_>, site: Site, of: Sub) -> Result<Sub, ParseError>
-        requires { Nests self.now.types.budget (E.pre self.now.types.level) (E.post self.now.types.level) (T.pre self.now.types.maybe_type) (T.post self.now.types.maybe_type) (B.pre self.now.types.braces) (B.post self.now.types.braces) }
+        requires { Nests self.now.types.budget (F.pre self.now.types.part) (F.post self.now.types.part) }
         ensures { Reads see (spec.suffixes (self.now.types.budget - 1) (readers (self.now.types.budget - 1)) site (suc self.now.types.budget) (see of) words.old) result words.new }
     {
         let mut of = of;
         // Each turn makes the tree deeper.
         let mut turns = self.types.budget;
         while self.has_room(&of) {
-            match self.one_suffix(words, site, of)? {
-                Turn::Done(last) => return Ok(last),
-                Turn::More(next) => of = next,
+            match self.one_suffix(words, site, of) {
+                Ok(Turn::Done(last)) => return Ok(last),
+                Ok(Turn::More(next)) => of = next,
+                Err(fault) => return Err(fault),
             }
             if turns == 0 {
                 return Ok(of);
@@ -142,10 +182,13 @@ where
 
     #[tactic(auto, unfolding(ui_syntax::specs::Exprs::primary))]
     pub(crate) fn primary(&self, words: &mut Cursor<'_>, site: Site) -> Result<Sub, ParseError>
-        requires { Nests self.now.types.budget (E.pre self.now.types.level) (E.post self.now.types.level) (T.pre self.now.types.maybe_type) (T.post self.now.types.maybe_type) (B.pre self.now.types.braces) (B.post self.now.types.braces) }
+        requires { Nests self.now.types.budget (F.pre self.now.types.part) (F.post self.now.types.part) }
         ensures { Reads see (spec.primary (self.now.types.budget - 1) (readers (self.now.types.budget - 1)) site words.old) result words.new }
     {
-        let of = self.operand(words, site)?;
+        let of = match self.operand(words, site) {
+            Ok(of) => of,
+            Err(fault) => return Err(fault),
+        };
         self.suffixes(words, site, of)
     }
 }

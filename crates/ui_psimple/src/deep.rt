@@ -42,11 +42,13 @@ impl<T: Drop> Deep<Items<T>> {
             mut of,
             depth: deepest,
         } = self;
-        of.push(part)?;
-        Ok(Deep {
-            of,
-            depth: deepest.max(depth),
-        })
+        match of.push(part) {
+            Ok(()) => Ok(Deep {
+                of,
+                depth: deepest.max(depth),
+            }),
+            Err(fault) => Err(fault),
+        }
     }
 }
 
@@ -67,8 +69,10 @@ impl<T> Ends for Deep<Items<T>> {
 pub fn empty_stmt(alloc: Global) -> Result<StmtSub, NoMemory>
     ensures { IfOk result (λ s. see_stmt s ≡ no_statement) }
 {
-    let of = Boxed::new(alloc, StmtTree::Empty)?;
-    Ok(Deep { of, depth: 1 })
+    match Boxed::new(alloc, StmtTree::Empty) {
+        Ok(of) => Ok(Deep { of, depth: 1 }),
+        Err(fault) => Err(fault),
+    }
 }
 
 /// A statement over parts so deep.
@@ -76,6 +80,8 @@ pub fn stmt_over(alloc: Global, tree: StmtTree, depth: u32) -> Result<StmtSub, N
     ensures { IfOk result (λ s. see_stmt s ≡ sized (stmt_view tree) (suc depth)) }
 {
     let of = Boxed::new(alloc, tree)?;
-    let depth = deeper(depth)?;
-    Ok(Deep { of, depth })
+    match deeper(depth) {
+        Ok(depth) => Ok(Deep { of, depth }),
+        Err(fault) => Err(fault),
+    }
 }

@@ -42,8 +42,13 @@ fn one_more<R: SpecReader>(
 ) -> Result<Deep<Items<R::Spec>>, ParseError>
     ensures { Reads (see_list R.see) (spec.one_spec_more (R.reader reader.now) (see_list R.see all) words.old) result words.new }
 {
-    let next = reader.read(words)?;
-    Ok(all.add(next.of, next.depth)?)
+    match reader.read(words) {
+        Ok(next) => match all.add(next.of, next.depth) {
+            Ok(all) => Ok(all),
+            Err(_) => Err(ParseError::NoMemory),
+        },
+        Err(fault) => Err(fault),
+    }
 }
 
 // Behind the parenthesis.
@@ -72,16 +77,20 @@ pub fn one_or_several<R: SpecReader>(
 ) -> Result<Deep<Specs<R::Spec>>, ParseError>
     ensures { Reads (see_deep (specs_with R.see)) (spec.specs (R.reader reader.now) words.old) result words.new }
 {
-    if words.take(TokenKind::LParen).is_none() {
-        let one = reader.read(words)?;
-        return Ok(Deep {
-            of: Specs::One(one.of),
-            depth: one.depth,
-        });
+    match words.take(TokenKind::LParen) {
+        Some(_) => match several(alloc, words, reader) {
+            Ok(all) => Ok(Deep {
+                of: Specs::Grouped(all.of),
+                depth: all.depth,
+            }),
+            Err(fault) => Err(fault),
+        },
+        None => match reader.read(words) {
+            Ok(one) => Ok(Deep {
+                of: Specs::One(one.of),
+                depth: one.depth,
+            }),
+            Err(fault) => Err(fault),
+        },
     }
-    let all = several(alloc, words, reader)?;
-    Ok(Deep {
-        of: Specs::Grouped(all.of),
-        depth: all.depth,
-    })
 }

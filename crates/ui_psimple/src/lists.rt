@@ -3,7 +3,7 @@
 ghost use Rattle.std.specs.Prelude.{◌≡◌, IfOk};
 ghost use Rattle.ui_parse.specs.View.{Reads};
 ghost use Rattle.ui_ptype.specs.Seen.{see, see_all};
-ghost use Rattle.ui_syntax.specs.Types.{only};
+ghost use Rattle.ui_syntax.specs.Types.{add, only};
 ghost use Rattle.ui_stmts.specs.Common as spec;
 
 use std::alloc::Global;
@@ -24,8 +24,20 @@ pub(crate) fn only(alloc: Global, first: Sub) -> Result<Subs, NoMemory>
         depth,
     } = first;
     let mut items = Items::new(alloc);
-    items.push(tree.into_inner())?;
-    Ok(Subs { items, depth })
+    match items.push(tree.into_inner()) {
+        Ok(()) => Ok(Subs { items, depth }),
+        Err(fault) => Err(fault),
+    }
+}
+
+/// A list of these two.
+pub(crate) fn both(alloc: Global, first: Sub, second: Sub) -> Result<Subs, NoMemory>
+    ensures { IfOk result (λ l. see_all l ≡ add (only (see first).tree first.depth) (see second).tree second.depth) }
+{
+    match only(alloc, first) {
+        Ok(all) => all.add(second.tree, second.depth),
+        Err(fault) => Err(fault),
+    }
 }
 
 fn one_expr_more(
@@ -37,8 +49,10 @@ fn one_expr_more(
 ) -> Result<Subs, ParseError>
     ensures { Reads see_all (spec.one_expr_more budget header (see_all all) words.old) result words.new }
 {
-    let next = expr_of_budget(alloc, words, budget, header)?;
-    Ok(all.add(next.tree, next.depth)?)
+    match expr_of_budget(alloc, words, budget, header) {
+        Ok(next) => Ok(all.add(next.tree, next.depth)?),
+        Err(fault) => Err(fault),
+    }
 }
 
 /// These expressions, and those behind them with a comma before each.

@@ -2,6 +2,7 @@
 //! variable declarations", "For statements with range clause".
 
 ghost use Rattle.std.specs.Prelude.{◌≡◌, ◌∷◌, [], IfOk, map};
+ghost use Rattle.ui_syntax.specs.Types.{only};
 ghost use Rattle.std.specs.Option.{option_map};
 ghost use Rattle.ui_tree.specs.View.{view, trees};
 ghost use Rattle.ui_tree.specs.Stmt.{places};
@@ -14,8 +15,11 @@ ghost use Rattle.ui_psimple.specs.Seen.{see_head, see_stmt};
 ghost use Rattle.ui_psimple.specs.Parts as parts;
 
 use crate::deep::StmtSub;
-use crate::head::{Head, alone, range_over, stated};
-use crate::lists::{exprs, exprs_from, only};
+use crate::head::{
+    Head, alone, assign_over, decrement_over, define_over, increment_over, op_assign_over,
+    range_over,
+};
+use crate::lists::{both, exprs, exprs_from, only};
 use crate::maybe::or_none;
 use std::alloc::Global;
 use ui_base::{BinOp, NoMemory, Spot};
@@ -24,7 +28,7 @@ use ui_parse::{Cursor, ParseError};
 use ui_pread::expr_of_budget;
 use ui_ptype::{Sub, Subs};
 use ui_scan::TokenKind;
-use ui_tree::{ExprTree, Items, Placed, StmtTree};
+use ui_tree::{ExprTree, Items, Placed};
 
 // The operator of the assignment that comes next.
 fn assignment_at(words: &Cursor<'_>) -> Option<BinOp>
@@ -48,11 +52,13 @@ fn take_assignment(words: &mut Cursor<'_>) -> Option<BinOp>
 fn copy_of(alloc: Global, name: &Placed) -> Result<Placed, NoMemory>
     ensures { IfOk result (λ n. n ≡ name.now) }
 {
-    let text = name.text.copy(alloc)?;
-    Ok(Placed {
-        spot: name.spot,
-        text,
-    })
+    match name.text.copy(alloc) {
+        Ok(text) => Ok(Placed {
+            spot: name.spot,
+            text,
+        }),
+        Err(fault) => Err(fault),
+    }
 }
 
 // The name that the expression is.
@@ -61,7 +67,10 @@ fn name_in(alloc: Global, of: &ExprTree) -> Result<Option<Placed>, NoMemory>
     ensures { IfOk result (λ n. n ≡ spec.name_in (view of.now)) }
 {
     match of {
-        ExprTree::Name(name) => Ok(Some(copy_of(alloc, name)?)),
+        ExprTree::Name(name) => match copy_of(alloc, name) {
+            Ok(name) => Ok(Some(name)),
+            Err(fault) => Err(fault),
+        },
         _ => Ok(None),
     }
 }
@@ -72,12 +81,24 @@ fn names_in(alloc: Global, all: &[ExprTree]) -> Result<Option<Items<Placed>>, No
 {
     let mut names = Items::new(alloc);
     for of in all {
-        match name_in(alloc, of)? {
-            Some(name) => names.push(name)?,
-            None => return Ok(None),
+        match name_in(alloc, of) {
+            Ok(Some(name)) => names.push(name)?,
+            Ok(None) => return Ok(None),
+            Err(fault) => return Err(fault),
         }
     }
     Ok(Some(names))
+}
+
+// A list of this name alone.
+fn only_name(alloc: Global, name: Placed) -> Result<Items<Placed>, NoMemory>
+    ensures { IfOk result (λ ns. ns ≡ name ∷ []) }
+{
+    let mut names = Items::new(alloc);
+    match names.push(name) {
+        Ok(()) => Ok(names),
+        Err(fault) => Err(fault),
+    }
 }
 
 /// Reads a simple statement whose expressions have so much room, in a header or elsewhere; in that of a `for` it may
@@ -91,18 +112,13 @@ struct SimpleReader {
 }
 
 impl SimpleReader {
-    #[tactic(auto, using(crate::specs::StmtViews::view_Assign))]
     fn assigned(&self, words: &mut Cursor<'_>, spot: Spot, left: Subs) -> Result<Head, ParseError>
         ensures { Reads see_head (spec.assigned self.now.room self.now.header self.now.ranged spot (see_all left) words.old) result words.new }
     {
-        let right = exprs(self.alloc, words, self.room, self.header)?;
-        let depth = left.depth.max(right.depth);
-        let tree = StmtTree::Assign {
-            spot,
-            places: left.items,
-            values: right.items,
-        };
-        Ok(stated(self.alloc, tree, depth)?)
+        match exprs(self.alloc, words, self.room, self.header) {
+            Ok(right) => Ok(assign_over(self.alloc, spot, left, right)?),
+            Err(fault) => Err(fault),
+        }
     }
 
     // Behind "=".
@@ -121,7 +137,6 @@ impl SimpleReader {
         self.assigned(words, spot, left)
     }
 
-    #[tactic(auto, using(crate::specs::StmtViews::view_Define))]
     fn defined(
         &self,
         words: &mut Cursor<'_>,
@@ -130,14 +145,10 @@ impl SimpleReader {
     ) -> Result<Head, ParseError>
         ensures { Reads see_head (spec.defined self.now.room self.now.header self.now.ranged spot names words.old) result words.new }
     {
-        let values = exprs(self.alloc, words, self.room, self.header)?;
-        let depth = values.depth;
-        let tree = StmtTree::Define {
-            spot,
-            names,
-            values: values.items,
-        };
-        Ok(stated(self.alloc, tree, depth)?)
+        match exprs(self.alloc, words, self.room, self.header) {
+            Ok(values) => Ok(define_over(self.alloc, spot, names, values)?),
+            Err(fault) => Err(fault),
+        }
     }
 
     // Behind ":=", where all places are names.
@@ -161,26 +172,53 @@ impl SimpleReader {
     fn range_defined(&self, words: &mut Cursor<'_>, left: Subs) -> Result<Head, ParseError>
         ensures { Reads see_head (parts.range_defined (see_all left) words.old) result words.new }
     {
-        words.expect(TokenKind::Range)?;
-        Ok(range_over(left, true)?)
+        match words.expect(TokenKind::Range) {
+            Ok(_) => Ok(range_over(left, true)?),
+            Err(fault) => Err(fault),
+        }
+    }
+
+    // ":=", behind several places that are names.
+    #[tactic(auto, unfolding(ui_parse::specs::Reader::take_by))]
+    fn names_defined(
+        &self,
+        words: &mut Cursor<'_>,
+        spot: Spot,
+        left: Subs,
+        names: Items<Placed>,
+    ) -> Result<Head, ParseError>
+        ensures { Reads see_head (spec.defined_by self.now.room self.now.header self.now.ranged spot (see_all left) (Some names) words.old) result words.new }
+    {
+        match words.take(TokenKind::Define) {
+            Some(_) => self.behind_define(words, spot, left, names),
+            None => Err(ParseError::Fault),
+        }
+    }
+
+    // ":=" and `range`, behind several places that are no names.
+    #[tactic(auto, unfolding(ui_parse::specs::Reader::take_by))]
+    fn places_ranged(
+        &self,
+        words: &mut Cursor<'_>,
+        spot: Spot,
+        left: Subs,
+    ) -> Result<Head, ParseError>
+        ensures { Reads see_head (spec.defined_by self.now.room self.now.header self.now.ranged spot (see_all left) None words.old) result words.new }
+    {
+        if self.ranged && words.take(TokenKind::Define).is_some() {
+            return self.range_defined(words, left);
+        }
+        Err(ParseError::Fault)
     }
 
     // ":=", behind several places.
-    #[tactic(auto, unfolding(ui_parse::specs::Reader::take_by))]
     fn defined_by(&self, words: &mut Cursor<'_>, spot: Spot, left: Subs) -> Result<Head, ParseError>
         ensures { Reads see_head (spec.defined_by self.now.room self.now.header self.now.ranged spot (see_all left) (spec.names_in (see_all left).items) words.old) result words.new }
     {
-        match names_in(self.alloc, left.items.as_slice())? {
-            Some(names) => match words.take(TokenKind::Define) {
-                Some(_) => self.behind_define(words, spot, left, names),
-                None => Err(ParseError::Fault),
-            },
-            None => {
-                if self.ranged && words.take(TokenKind::Define).is_some() {
-                    return self.range_defined(words, left);
-                }
-                Err(ParseError::Fault)
-            }
+        match names_in(self.alloc, left.items.as_slice()) {
+            Ok(Some(names)) => self.names_defined(words, spot, left, names),
+            Ok(None) => self.places_ranged(words, spot, left),
+            Err(_) => Err(ParseError::NoMemory),
         }
     }
 
@@ -195,19 +233,13 @@ impl SimpleReader {
         }
     }
 
-    #[tactic(auto, using(crate::specs::StmtViews::view_OpAssign))]
     fn op_assigned(&self, words: &mut Cursor<'_>, place: Sub, op: BinOp) -> Result<Head, ParseError>
         ensures { Reads see_head (spec.op_assigned self.now.room self.now.header self.now.ranged (see place) op words.old) result words.new }
     {
-        let value = expr_of_budget(self.alloc, words, self.room, self.header)?;
-        let depth = place.depth.max(value.depth);
-        let tree = StmtTree::OpAssign {
-            spot: place.spot,
-            place: place.tree.into_inner(),
-            op,
-            value: value.tree.into_inner(),
-        };
-        Ok(stated(self.alloc, tree, depth)?)
+        match expr_of_budget(self.alloc, words, self.room, self.header) {
+            Ok(value) => Ok(op_assign_over(self.alloc, place, op, value)?),
+            Err(fault) => Err(fault),
+        }
     }
 
     // Behind a first expression and a comma.
@@ -215,28 +247,55 @@ impl SimpleReader {
         ensures { Reads see_head (parts.behind_comma self.now.room self.now.header self.now.ranged (see first) words.old) result words.new }
     {
         let spot = first.spot;
-        let second = expr_of_budget(self.alloc, words, self.room, self.header)?;
-        let all = only(self.alloc, first)?.add(second.tree, second.depth)?;
-        let all = exprs_from(self.alloc, words, self.room, self.header, all)?;
-        self.assignment(words, spot, all)
+        match expr_of_budget(self.alloc, words, self.room, self.header) {
+            Ok(second) => {
+                let all = both(self.alloc, first, second)?;
+                let all = exprs_from(self.alloc, words, self.room, self.header, all)?;
+                self.assignment(words, spot, all)
+            }
+            Err(fault) => Err(fault),
+        }
+    }
+
+    // Behind ":=" after one place that is a name.
+    fn name_defined(
+        &self,
+        words: &mut Cursor<'_>,
+        place: Sub,
+        name: Placed,
+    ) -> Result<Head, ParseError>
+        ensures { Reads see_head (parts.behind_define self.now.room self.now.header self.now.ranged place.spot (only (see place).tree place.depth) (name ∷ []) words.old) result words.new }
+    {
+        let spot = place.spot;
+        match only_name(self.alloc, name) {
+            Ok(names) => match only(self.alloc, place) {
+                Ok(left) => self.behind_define(words, spot, left, names),
+                Err(_) => Err(ParseError::NoMemory),
+            },
+            Err(_) => Err(ParseError::NoMemory),
+        }
+    }
+
+    // ":=" behind one place that is a name, or the expression alone.
+    #[tactic(auto, unfolding(ui_parse::specs::Reader::take_by))]
+    fn name_or(&self, words: &mut Cursor<'_>, place: Sub, name: Placed) -> Result<Head, ParseError>
+        ensures { Reads see_head (spec.define_or self.now.room self.now.header self.now.ranged (see place) (Some (name ∷ [])) words.old) result words.new }
+    {
+        match words.take(TokenKind::Define) {
+            Some(_) => self.name_defined(words, place, name),
+            None => Ok(Head::Expression(place)),
+        }
     }
 
     // ":=" behind one place, or the expression alone.
-    #[tactic(auto, unfolding(ui_parse::specs::Reader::take_by))]
     fn define_or(&self, words: &mut Cursor<'_>, place: Sub) -> Result<Head, ParseError>
         ensures { Reads see_head (spec.define_or self.now.room self.now.header self.now.ranged (see place) (spec.names_in ((see place).tree ∷ [])) words.old) result words.new }
     {
-        let Some(name) = name_in(self.alloc, place.tree.get())? else {
-            return self.range_or(words, place);
-        };
-        if words.take(TokenKind::Define).is_none() {
-            return Ok(Head::Expression(place));
+        match name_in(self.alloc, place.tree.get()) {
+            Ok(Some(name)) => self.name_or(words, place, name),
+            Ok(None) => self.range_or(words, place),
+            Err(_) => Err(ParseError::NoMemory),
         }
-        let spot = place.spot;
-        let left = only(self.alloc, place)?;
-        let mut names = Items::new(self.alloc);
-        names.push(name)?;
-        self.behind_define(words, spot, left, names)
     }
 
     // ":=" and `range` behind one place that is no name, or the expression alone.
@@ -252,24 +311,15 @@ impl SimpleReader {
     }
 
     // "++", "--" or ":=", or the expression alone.
-    #[tactic(auto, using(crate::specs::StmtViews::view_Increment, crate::specs::StmtViews::view_Decrement), unfolding(ui_parse::specs::Reader::take_by))]
+    #[tactic(auto, unfolding(ui_parse::specs::Reader::take_by))]
     fn stepped_or(&self, words: &mut Cursor<'_>, place: Sub) -> Result<Head, ParseError>
         ensures { Reads see_head (parts.stepped_or self.now.room self.now.header self.now.ranged (see place) words.old) result words.new }
     {
-        let spot = place.spot;
         if words.take(TokenKind::Inc).is_some() {
-            let tree = StmtTree::Increment {
-                spot,
-                place: place.tree.into_inner(),
-            };
-            return Ok(stated(self.alloc, tree, place.depth)?);
+            return Ok(increment_over(self.alloc, place)?);
         }
         if words.take(TokenKind::Dec).is_some() {
-            let tree = StmtTree::Decrement {
-                spot,
-                place: place.tree.into_inner(),
-            };
-            return Ok(stated(self.alloc, tree, place.depth)?);
+            return Ok(decrement_over(self.alloc, place)?);
         }
         self.define_or(words, place)
     }

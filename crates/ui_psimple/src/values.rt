@@ -87,8 +87,26 @@ fn values(
 ) -> Result<Deep<ValueSpec>, ParseError>
     ensures { Reads (see_deep value_view) (spec.values budget names (see_maybe of) words.old) result words.new }
 {
-    let values = exprs(alloc, words, budget, false)?;
-    Ok(value_of(names, of, Some(values)))
+    match exprs(alloc, words, budget, false) {
+        Ok(values) => Ok(value_of(names, of, Some(values))),
+        Err(fault) => Err(fault),
+    }
+}
+
+// "=" and values, behind the type.
+fn typed_constant(
+    alloc: Global,
+    words: &mut Cursor<'_>,
+    budget: u32,
+    names: Items<Placed>,
+    of: TypeSub,
+) -> Result<Deep<ValueSpec>, ParseError>
+    ensures { Reads (see_deep value_view) (spec.constant_behind budget names (Some (see_type of)) words.old) result words.new }
+{
+    match words.expect(TokenKind::Assign) {
+        Ok(_) => values(alloc, words, budget, names, Some(of)),
+        Err(fault) => Err(fault),
+    }
 }
 
 // Where no "=" follows the names: a type has to have values.
@@ -100,11 +118,11 @@ fn constant_behind(
 ) -> Result<Deep<ValueSpec>, ParseError>
     ensures { Reads (see_deep value_view) (untaken_constant budget names words.old) result words.new }
 {
-    let Some(of) = maybe_type(alloc, words, budget, TypeSite::Plain)? else {
-        return Ok(value_of(names, None, None));
-    };
-    words.expect(TokenKind::Assign)?;
-    values(alloc, words, budget, names, Some(of))
+    match maybe_type(alloc, words, budget, TypeSite::Plain) {
+        Ok(Some(of)) => typed_constant(alloc, words, budget, names, of),
+        Ok(None) => Ok(value_of(names, None, None)),
+        Err(fault) => Err(fault),
+    }
 }
 
 #[tactic(auto, unfolding(ui_stmts::specs::Common::constant, ui_parse::specs::Reader::take_by))]
@@ -135,10 +153,12 @@ fn typed_variable(
 ) -> Result<Deep<ValueSpec>, ParseError>
     ensures { Reads (see_deep value_view) (typed_variable budget names words.old) result words.new }
 {
-    let of = type_of_budget(alloc, words, budget)?;
-    match words.take(TokenKind::Assign) {
-        Some(_) => values(alloc, words, budget, names, Some(of)),
-        None => Ok(value_of(names, Some(of), None)),
+    match type_of_budget(alloc, words, budget) {
+        Ok(of) => match words.take(TokenKind::Assign) {
+            Some(_) => values(alloc, words, budget, names, Some(of)),
+            None => Ok(value_of(names, Some(of), None)),
+        },
+        Err(fault) => Err(fault),
     }
 }
 

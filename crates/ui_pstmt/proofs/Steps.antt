@@ -5,7 +5,7 @@ use Rattle.ui_parse.specs.declared.fault.ParseError.{ParseError}
 use Rattle.ui_parse.specs.declared.fault.ParseError.TheVariants.{Fault}
 use Rattle.ui_parse.specs.Reader.{Outcome, Reader, and_then, pure}
 use Rattle.ui_parse.specs.View.{Reads}
-use Rattle.ui_parse.specs.ListLaws.{reads_fault}
+use Rattle.ui_parse.proofs.ListLaws.{reads_fault}
 use Rattle.ui_pstmt.specs.Seen.{Step, finished, going}
 use Rattle.ui_pstmt.specs.Turns.{after_step}
 

@@ -17,6 +17,3 @@ pub use knot::{block, stmt};
 pub use ui_psimple::{
     Deep, SpecReader, StmtSub, constant_decl, names, one_or_several, variable_decl,
 };
-
-#[cfg(test)]
-mod tests;

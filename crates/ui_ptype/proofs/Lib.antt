@@ -1,3 +1,4 @@
+pub mod AskedReads
 mod CodeReaders
 mod NamedTypes
 mod EntryReads

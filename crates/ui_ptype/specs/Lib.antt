@@ -1,4 +1,5 @@
 pub mod Seen
+pub mod Asked
 pub mod Nests
 pub mod Parts
 pub mod Pointers

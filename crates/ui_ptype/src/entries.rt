@@ -13,8 +13,10 @@ ghost use Rattle.ui_syntax.specs.Types as spec;
 
 use crate::cover::{into_type, is_type, is_type_alone};
 use crate::grammar::Grammar;
+use crate::nested::{Ask, Got};
 use crate::params::Params;
-use crate::sub::{Groups, Sub, Subs, TypeSub, TypeSubs, deeper, type_sub};
+use crate::sub::{Groups, Sub, TypeSub, TypeSubs, type_over, type_sub};
+use crate::type_names::with_args;
 use std::alloc::Global;
 use ui_base::Spot;
 use ui_parse::{Cursor, ParseError, parts};
@@ -22,23 +24,21 @@ use ui_scan::TokenKind;
 use ui_syntax::{Site, Style, TypeSite};
 use ui_tree::{Placed, TypeExpr};
 
-impl<E, T, B> Grammar<E, T, B>
-where
-    E: Fn(Global, &mut Cursor<'_>, u32, Site, u8) -> Result<Sub, ParseError>,
-    T: Fn(Global, &mut Cursor<'_>, u32, TypeSite) -> Result<Option<TypeSub>, ParseError>,
-    B: Fn(Global, &mut Cursor<'_>, u32) -> Result<Subs, ParseError>,
+/// The type that an expression's text is too; a fault where it is none.
+pub fn cover_type(alloc: Global, words: &Cursor<'_>, cover: Sub) -> Result<TypeSub, ParseError>
+    ensures { Reads see_type (covered (see cover) (as_type (see cover).tree) words.now) result words.now }
 {
-    /// The type that an expression's text is too; a fault where it is none.
-    pub fn cover_type(&self, words: &Cursor<'_>, cover: Sub) -> Result<TypeSub, ParseError>
-        ensures { Reads see_type (covered (see cover) (as_type (see cover).tree) words.now) result words.now }
-    {
-        let Sub { tree, spot, depth } = cover;
-        match into_type(self.alloc, tree.into_inner())? {
-            Some(of) => Ok(type_sub(self.alloc, of, spot, depth)?),
-            None => Err(ParseError::Fault),
-        }
+    let Sub { tree, spot, depth } = cover;
+    match into_type(alloc, tree.into_inner())? {
+        Some(of) => Ok(type_sub(alloc, of, spot, depth)?),
+        None => Err(ParseError::Fault),
     }
+}
 
+impl<F> Grammar<F>
+where
+    F: Fn(Global, &mut Cursor<'_>, u32, Ask) -> Result<Got, ParseError>,
+{
     // n [X], where X is no array's length.
     fn add_argument(
         &self,
@@ -47,16 +47,28 @@ where
         name: Placed,
         cover: Sub,
     ) -> Result<Params, ParseError>
-        requires { Nests self.now.budget (E.pre self.now.level) (E.post self.now.level) (T.pre self.now.maybe_type) (T.post self.now.maybe_type) (B.pre self.now.braces) (B.post self.now.braces) }
+        requires { Nests self.now.budget (F.pre self.now.part) (F.post self.now.part) }
         ensures { Reads see_params (spec.add_argument (self.now.budget - 1) (readers (self.now.budget - 1)) (see_params params) name (as_type (see cover).tree) cover.depth words.old) result words.new }
     {
         if !is_type(cover.tree.get()) {
             return Err(ParseError::Fault);
         }
-        let first = self.cover_type(words, cover)?;
-        let args = TypeSubs::only(self.alloc, first)?;
-        let of = self.with_args(name, None, args)?;
-        Ok(params.add_type(self.alloc, of)?)
+        let first = match cover_type(self.alloc, words, cover) {
+            Ok(first) => first,
+            Err(fault) => return Err(fault),
+        };
+        let args = match TypeSubs::only(self.alloc, first) {
+            Ok(args) => args,
+            Err(_) => return Err(ParseError::NoMemory),
+        };
+        let of = match with_args(self.alloc, name, None, args) {
+            Ok(of) => of,
+            Err(_) => return Err(ParseError::NoMemory),
+        };
+        match params.add_type(self.alloc, of) {
+            Ok(params) => Ok(params),
+            Err(_) => Err(ParseError::NoMemory),
+        }
     }
 
     // Behind n [X]: a type, of which X is the length, or none.
@@ -68,23 +80,31 @@ where
         spot: Spot,
         cover: Sub,
     ) -> Result<Params, ParseError>
-        requires { Nests self.now.budget (E.pre self.now.level) (E.post self.now.level) (T.pre self.now.maybe_type) (T.post self.now.maybe_type) (B.pre self.now.braces) (B.post self.now.braces) }
+        requires { Nests self.now.budget (F.pre self.now.part) (F.post self.now.part) }
         ensures { Reads see_params (spec.behind_bracket (self.now.budget - 1) (readers (self.now.budget - 1)) (see_params params) name spot (see cover) (only_type (see cover).tree) words.old) result words.new }
     {
         if is_type_alone(cover.tree.get()) {
             return self.add_argument(words, params, name, cover);
         }
-        let Some(of) = self.maybe_lower_type(words)? else {
-            return self.add_argument(words, params, name, cover);
+        let of = match self.maybe_lower_type(words) {
+            Ok(Some(of)) => of,
+            Ok(None) => return self.add_argument(words, params, name, cover),
+            Err(fault) => return Err(fault),
         };
-        let depth = deeper(cover.depth.max(of.depth))?;
-        let array = type_sub(
+        let depth = cover.depth.max(of.depth);
+        let array = match type_over(
             self.alloc,
             TypeExpr::array(spot, cover.tree, of.tree),
             spot,
             depth,
-        )?;
-        Ok(params.add_named(self.alloc, name, array)?)
+        ) {
+            Ok(array) => array,
+            Err(_) => return Err(ParseError::NoMemory),
+        };
+        match params.add_named(self.alloc, name, array) {
+            Ok(params) => Ok(params),
+            Err(_) => Err(ParseError::NoMemory),
+        }
     }
 
     // n [X, or n [X].
@@ -97,16 +117,30 @@ where
         spot: Spot,
         cover: Sub,
     ) -> Result<Params, ParseError>
-        requires { Nests self.now.budget (E.pre self.now.level) (E.post self.now.level) (T.pre self.now.maybe_type) (T.post self.now.maybe_type) (B.pre self.now.braces) (B.post self.now.braces) }
+        requires { Nests self.now.budget (F.pre self.now.part) (F.post self.now.part) }
         ensures { Reads see_params (spec.behind_cover (self.now.budget - 1) (readers (self.now.budget - 1)) (see_params params) name spot (see cover) (as_type (see cover).tree) words.old) result words.new }
     {
         if is_type(cover.tree.get()) && words.take(TokenKind::Comma).is_some() {
-            let first = self.cover_type(words, cover)?;
-            let args = self.args_behind(words, true, first)?;
-            let of = self.with_args(name, None, args)?;
-            return Ok(params.add_type(self.alloc, of)?);
+            let first = match cover_type(self.alloc, words, cover) {
+                Ok(first) => first,
+                Err(fault) => return Err(fault),
+            };
+            let args = match self.args_behind(words, true, first) {
+                Ok(args) => args,
+                Err(fault) => return Err(fault),
+            };
+            let of = match with_args(self.alloc, name, None, args) {
+                Ok(of) => of,
+                Err(_) => return Err(ParseError::NoMemory),
+            };
+            match params.add_type(self.alloc, of) {
+                Ok(params) => return Ok(params),
+                Err(_) => return Err(ParseError::NoMemory),
+            }
         }
-        words.expect(TokenKind::RBracket)?;
+        if let Err(fault) = words.expect(TokenKind::RBracket) {
+            return Err(fault);
+        }
         self.behind_bracket(words, params, name, spot, cover)
     }
 
@@ -119,16 +153,28 @@ where
         name: Placed,
         spot: Spot,
     ) -> Result<Params, ParseError>
-        requires { Nests self.now.budget (E.pre self.now.level) (E.post self.now.level) (T.pre self.now.maybe_type) (T.post self.now.maybe_type) (B.pre self.now.braces) (B.post self.now.braces) }
+        requires { Nests self.now.budget (F.pre self.now.part) (F.post self.now.part) }
         ensures { Reads see_params (spec.bracketed (self.now.budget - 1) (readers (self.now.budget - 1)) (see_params params) name spot words.old) result words.new }
     {
         if words.take(TokenKind::RBracket).is_some() {
-            let of = self.a_lower_type(words)?;
-            let depth = deeper(of.depth)?;
-            let slice = type_sub(self.alloc, TypeExpr::slice(spot, of.tree), spot, depth)?;
-            return Ok(params.add_named(self.alloc, name, slice)?);
+            let of = match self.a_lower_type(words) {
+                Ok(of) => of,
+                Err(fault) => return Err(fault),
+            };
+            let depth = of.depth;
+            let slice = match type_over(self.alloc, TypeExpr::slice(spot, of.tree), spot, depth) {
+                Ok(slice) => slice,
+                Err(_) => return Err(ParseError::NoMemory),
+            };
+            return match params.add_named(self.alloc, name, slice) {
+                Ok(params) => Ok(params),
+                Err(_) => Err(ParseError::NoMemory),
+            };
         }
-        let cover = self.lower_level(words, Site::Argument, 1)?;
+        let cover = match self.lower_level(words, Site::Argument, 1) {
+            Ok(cover) => cover,
+            Err(fault) => return Err(fault),
+        };
         self.behind_cover(words, params, name, spot, cover)
     }
 
@@ -138,12 +184,19 @@ where
         params: Params,
         name: Placed,
     ) -> Result<Params, ParseError>
-        requires { Nests self.now.budget (E.pre self.now.level) (E.post self.now.level) (T.pre self.now.maybe_type) (T.post self.now.maybe_type) (B.pre self.now.braces) (B.post self.now.braces) }
+        requires { Nests self.now.budget (F.pre self.now.part) (F.post self.now.part) }
         ensures { Reads see_params (spec.maybe_named (self.now.budget - 1) (readers (self.now.budget - 1)) (see_params params) name words.old) result words.new }
     {
-        match self.type_at(words, TypeSite::Plain)? {
-            Some(of) => Ok(params.add_named(self.alloc, name, of)?),
-            None => Ok(params.add_name(name)?),
+        match self.type_at(words, TypeSite::Plain) {
+            Ok(Some(of)) => match params.add_named(self.alloc, name, of) {
+                Ok(params) => Ok(params),
+                Err(_) => Err(ParseError::NoMemory),
+            },
+            Ok(None) => match params.add_name(name) {
+                Ok(params) => Ok(params),
+                Err(_) => Err(ParseError::NoMemory),
+            },
+            Err(fault) => Err(fault),
         }
     }
 
@@ -154,12 +207,21 @@ where
         params: Params,
         name: Placed,
     ) -> Result<Params, ParseError>
-        requires { Nests self.now.budget (E.pre self.now.level) (E.post self.now.level) (T.pre self.now.maybe_type) (T.post self.now.maybe_type) (B.pre self.now.braces) (B.post self.now.braces) }
+        requires { Nests self.now.budget (F.pre self.now.part) (F.post self.now.part) }
         ensures { Reads see_params (spec.qualified (self.now.budget - 1) (readers (self.now.budget - 1)) (see_params params) name words.old) result words.new }
     {
-        let member = words.expect_name(self.alloc)?;
-        let of = self.maybe_args(words, self.budget - 1, true, name, Some(member))?;
-        Ok(params.add_type(self.alloc, of)?)
+        let member = match words.expect_name(self.alloc) {
+            Ok(member) => member,
+            Err(fault) => return Err(fault),
+        };
+        let of = match self.maybe_args(words, self.budget - 1, true, name, Some(member)) {
+            Ok(of) => of,
+            Err(fault) => return Err(fault),
+        };
+        match params.add_type(self.alloc, of) {
+            Ok(params) => Ok(params),
+            Err(_) => Err(ParseError::NoMemory),
+        }
     }
 
     // A first name, where it isn't said yet whether parameters have names.
@@ -170,7 +232,7 @@ where
         params: Params,
         name: Placed,
     ) -> Result<Params, ParseError>
-        requires { Nests self.now.budget (E.pre self.now.level) (E.post self.now.level) (T.pre self.now.maybe_type) (T.post self.now.maybe_type) (B.pre self.now.braces) (B.post self.now.braces) }
+        requires { Nests self.now.budget (F.pre self.now.part) (F.post self.now.part) }
         ensures { Reads see_params (spec.open_name (self.now.budget - 1) (readers (self.now.budget - 1)) (see_params params) name words.old) result words.new }
     {
         if self.budget < 3 {
@@ -186,37 +248,45 @@ where
     }
 
     fn bare_param(&self, words: &mut Cursor<'_>, params: Params) -> Result<Params, ParseError>
-        requires { Nests self.now.budget (E.pre self.now.level) (E.post self.now.level) (T.pre self.now.maybe_type) (T.post self.now.maybe_type) (B.pre self.now.braces) (B.post self.now.braces) }
+        requires { Nests self.now.budget (F.pre self.now.part) (F.post self.now.part) }
         ensures { Reads see_params (spec.bare_param (self.now.budget - 1) (readers (self.now.budget - 1)) (see_params params) words.old) result words.new }
     {
-        let of = self.a_type(words)?;
-        Ok(params.add_type(self.alloc, of)?)
+        let of = match self.a_type(words) {
+            Ok(of) => of,
+            Err(fault) => return Err(fault),
+        };
+        match params.add_type(self.alloc, of) {
+            Ok(params) => Ok(params),
+            Err(_) => Err(ParseError::NoMemory),
+        }
     }
 
     // [ name ] Type
     #[tactic(auto, unfolding(ui_syntax::specs::Types::param, ui_parse::specs::Reader::take_by))]
     fn param(&self, words: &mut Cursor<'_>, params: Params) -> Result<Params, ParseError>
-        requires { Nests self.now.budget (E.pre self.now.level) (E.post self.now.level) (T.pre self.now.maybe_type) (T.post self.now.maybe_type) (B.pre self.now.braces) (B.post self.now.braces) }
+        requires { Nests self.now.budget (F.pre self.now.part) (F.post self.now.part) }
         ensures { Reads see_params (spec.param (self.now.budget - 1) (readers (self.now.budget - 1)) (see_params params) words.old) result words.new }
     {
         if self.budget < 2 {
             return Err(ParseError::Fault);
         }
         match params.style {
-            Style::Open => match words.take_name(self.alloc)? {
-                Some(name) => self.open_name(words, params, name),
-                None => self.bare_param(words, params),
+            Style::Open => match words.take_name(self.alloc) {
+                Ok(Some(name)) => self.open_name(words, params, name),
+                Ok(None) => self.bare_param(words, params),
+                Err(_) => Err(ParseError::NoMemory),
             },
             Style::Bare => self.bare_param(words, params),
-            Style::Named => match words.take_name(self.alloc)? {
-                Some(name) => self.maybe_named(words, params, name),
-                None => Err(ParseError::Fault),
+            Style::Named => match words.take_name(self.alloc) {
+                Ok(Some(name)) => self.maybe_named(words, params, name),
+                Ok(None) => Err(ParseError::Fault),
+                Err(_) => Err(ParseError::NoMemory),
             },
         }
     }
 
     fn param_list(&self, words: &mut Cursor<'_>) -> Result<Params, ParseError>
-        requires { Nests self.now.budget (E.pre self.now.level) (E.post self.now.level) (T.pre self.now.maybe_type) (T.post self.now.maybe_type) (B.pre self.now.braces) (B.post self.now.braces) }
+        requires { Nests self.now.budget (F.pre self.now.part) (F.post self.now.part) }
         ensures { Reads see_params (reader.parts Comma RParen spec.params_ending (spec.param (self.now.budget - 1) (readers (self.now.budget - 1))) spec.no_params words.old) result words.new }
     {
         let params = Params::new(self.alloc);
@@ -232,10 +302,16 @@ where
     /// [ Param { "," Param } [ "," ] ] ")", in groups with one type.
     #[tactic(auto, unfolding(ui_syntax::specs::Types::params))]
     pub fn params(&self, words: &mut Cursor<'_>) -> Result<Groups, ParseError>
-        requires { Nests self.now.budget (E.pre self.now.level) (E.post self.now.level) (T.pre self.now.maybe_type) (T.post self.now.maybe_type) (B.pre self.now.braces) (B.post self.now.braces) }
+        requires { Nests self.now.budget (F.pre self.now.part) (F.post self.now.part) }
         ensures { Reads see_groups (spec.params (self.now.budget - 1) (readers (self.now.budget - 1)) words.old) result words.new }
     {
-        let params = self.param_list(words)?;
-        Ok(params.into_groups(self.alloc)?)
+        let params = match self.param_list(words) {
+            Ok(params) => params,
+            Err(fault) => return Err(fault),
+        };
+        match params.into_groups(self.alloc) {
+            Ok(params) => Ok(params),
+            Err(_) => Err(ParseError::NoMemory),
+        }
     }
 }

@@ -1,4 +1,4 @@
-//! The readers of a budget, over function values that read with a smaller one.
+//! The readers of a budget, over a function value that reads with a smaller one.
 
 ghost use Rattle.std.specs.Prelude.{◌≡◌, ◌-◌, ◌<◌};
 ghost use Rattle.ui_parse.specs.View.{Reads};
@@ -10,6 +10,7 @@ ghost use Rattle.ui_ptype.specs.Parts.{type_in};
 ghost use Rattle.ui_ptype.specs.Seen.{see, see_type, see_maybe, see_all};
 ghost use Rattle.ui_syntax.specs.declared.site.TypeSite.TheVariants as at;
 
+use crate::nested::{Ask, Got};
 use crate::sub::{Sub, Subs, TypeSub};
 use std::alloc::Global;
 use ui_parse::{Cursor, ParseError};
@@ -17,31 +18,60 @@ use ui_syntax::{Site, TypeSite};
 
 /// How deep a tree may be, and what reads its parts.
 #[derive(Clone, Copy)]
-pub struct Grammar<E, T, B>
+pub struct Grammar<F>
 where
-    E: Fn(Global, &mut Cursor<'_>, u32, Site, u8) -> Result<Sub, ParseError>,
-    T: Fn(Global, &mut Cursor<'_>, u32, TypeSite) -> Result<Option<TypeSub>, ParseError>,
-    B: Fn(Global, &mut Cursor<'_>, u32) -> Result<Subs, ParseError>,
+    F: Fn(Global, &mut Cursor<'_>, u32, Ask) -> Result<Got, ParseError>,
 {
     pub alloc: Global,
     pub budget: u32,
-    pub level: E,
-    pub maybe_type: T,
-    pub braces: B,
+    pub part: F,
 }
 
-impl<E, T, B> Grammar<E, T, B>
+impl<F> Grammar<F>
 where
-    E: Fn(Global, &mut Cursor<'_>, u32, Site, u8) -> Result<Sub, ParseError>,
-    T: Fn(Global, &mut Cursor<'_>, u32, TypeSite) -> Result<Option<TypeSub>, ParseError>,
-    B: Fn(Global, &mut Cursor<'_>, u32) -> Result<Subs, ParseError>,
+    F: Fn(Global, &mut Cursor<'_>, u32, Ask) -> Result<Got, ParseError>,
 {
+    #[tactic(auto, using(crate::proofs::AskedReads::is_level, crate::proofs::AskedReads::level_read, crate::proofs::AskedReads::level_fault))]
+    fn level_within(
+        &self,
+        words: &mut Cursor<'_>,
+        budget: u32,
+        site: Site,
+        least: u8,
+    ) -> Result<Sub, ParseError>
+        requires nests { Nests self.now.budget (F.pre self.now.part) (F.post self.now.part) }
+        requires below { budget < self.now.budget }
+        ensures { Reads see ((readers budget).level site least words.old) result words.new }
+    {
+        match (self.part)(self.alloc, words, budget, Ask::Level(site, least)) {
+            Ok(got) => Ok(got.into_level()),
+            Err(fault) => Err(fault),
+        }
+    }
+
+    #[tactic(auto, using(crate::proofs::AskedReads::is_type, crate::proofs::AskedReads::type_read, crate::proofs::AskedReads::type_fault))]
+    fn type_within(
+        &self,
+        words: &mut Cursor<'_>,
+        budget: u32,
+        site: TypeSite,
+    ) -> Result<Option<TypeSub>, ParseError>
+        requires nests { Nests self.now.budget (F.pre self.now.part) (F.post self.now.part) }
+        requires below { budget < self.now.budget }
+        ensures { Reads see_maybe ((readers budget).maybe_type site words.old) result words.new }
+    {
+        match (self.part)(self.alloc, words, budget, Ask::MaybeType(site)) {
+            Ok(got) => Ok(got.into_maybe_type()),
+            Err(fault) => Err(fault),
+        }
+    }
+
     /// An expression of one level less, whose operators bind at least so tightly.
     pub fn level_at(&self, words: &mut Cursor<'_>, site: Site, least: u8) -> Result<Sub, ParseError>
-        requires { Nests self.now.budget (E.pre self.now.level) (E.post self.now.level) (T.pre self.now.maybe_type) (T.post self.now.maybe_type) (B.pre self.now.braces) (B.post self.now.braces) }
+        requires { Nests self.now.budget (F.pre self.now.part) (F.post self.now.part) }
         ensures { Reads see ((readers (self.now.budget - 1)).level site least words.old) result words.new }
     {
-        (self.level)(self.alloc, words, self.budget - 1, site, least)
+        self.level_within(words, self.budget - 1, site, least)
     }
 
     // The next lower budget than that of the parts: nothing where there is none.
@@ -52,16 +82,10 @@ where
         site: Site,
         least: u8,
     ) -> Result<Sub, ParseError>
-        requires { Nests self.now.budget (E.pre self.now.level) (E.post self.now.level) (T.pre self.now.maybe_type) (T.post self.now.maybe_type) (B.pre self.now.braces) (B.post self.now.braces) }
+        requires { Nests self.now.budget (F.pre self.now.part) (F.post self.now.part) }
         ensures { Reads see ((readers (self.now.budget - 1)).lower_level site least words.old) result words.new }
     {
-        (self.level)(
-            self.alloc,
-            words,
-            self.budget.saturating_sub(2),
-            site,
-            least,
-        )
+        self.level_within(words, self.budget.saturating_sub(2), site, least)
     }
 
     /// A type of one level less, where one begins.
@@ -70,10 +94,10 @@ where
         words: &mut Cursor<'_>,
         site: TypeSite,
     ) -> Result<Option<TypeSub>, ParseError>
-        requires { Nests self.now.budget (E.pre self.now.level) (E.post self.now.level) (T.pre self.now.maybe_type) (T.post self.now.maybe_type) (B.pre self.now.braces) (B.post self.now.braces) }
+        requires { Nests self.now.budget (F.pre self.now.part) (F.post self.now.part) }
         ensures { Reads see_maybe ((readers (self.now.budget - 1)).maybe_type site words.old) result words.new }
     {
-        (self.maybe_type)(self.alloc, words, self.budget - 1, site)
+        self.type_within(words, self.budget - 1, site)
     }
 
     #[tactic(auto, using(crate::proofs::CodeReaders::reads_lower_type))]
@@ -81,40 +105,37 @@ where
         &self,
         words: &mut Cursor<'_>,
     ) -> Result<Option<TypeSub>, ParseError>
-        requires { Nests self.now.budget (E.pre self.now.level) (E.post self.now.level) (T.pre self.now.maybe_type) (T.post self.now.maybe_type) (B.pre self.now.braces) (B.post self.now.braces) }
+        requires { Nests self.now.budget (F.pre self.now.part) (F.post self.now.part) }
         ensures { Reads see_maybe ((readers (self.now.budget - 1)).lower_maybe_type at.Plain words.old) result words.new }
     {
-        (self.maybe_type)(
-            self.alloc,
-            words,
-            self.budget.saturating_sub(2),
-            TypeSite::Plain,
-        )
+        self.type_within(words, self.budget.saturating_sub(2), TypeSite::Plain)
     }
 
     /// A type of one level less.
     pub fn a_type(&self, words: &mut Cursor<'_>) -> Result<TypeSub, ParseError>
-        requires { Nests self.now.budget (E.pre self.now.level) (E.post self.now.level) (T.pre self.now.maybe_type) (T.post self.now.maybe_type) (B.pre self.now.braces) (B.post self.now.braces) }
+        requires { Nests self.now.budget (F.pre self.now.part) (F.post self.now.part) }
         ensures { Reads see_type (spec.a_type (self.now.budget - 1) (readers (self.now.budget - 1)) words.old) result words.new }
     {
-        match self.type_at(words, TypeSite::Plain)? {
-            Some(of) => Ok(of),
-            None => Err(ParseError::Fault),
+        match self.type_at(words, TypeSite::Plain) {
+            Ok(Some(of)) => Ok(of),
+            Ok(None) => Err(ParseError::Fault),
+            Err(fault) => Err(fault),
         }
     }
 
     pub(crate) fn a_lower_type(&self, words: &mut Cursor<'_>) -> Result<TypeSub, ParseError>
-        requires { Nests self.now.budget (E.pre self.now.level) (E.post self.now.level) (T.pre self.now.maybe_type) (T.post self.now.maybe_type) (B.pre self.now.braces) (B.post self.now.braces) }
+        requires { Nests self.now.budget (F.pre self.now.part) (F.post self.now.part) }
         ensures { Reads see_type (spec.a_lower_type (self.now.budget - 1) (readers (self.now.budget - 1)) words.old) result words.new }
     {
-        match self.maybe_lower_type(words)? {
-            Some(of) => Ok(of),
-            None => Err(ParseError::Fault),
+        match self.maybe_lower_type(words) {
+            Ok(Some(of)) => Ok(of),
+            Ok(None) => Err(ParseError::Fault),
+            Err(fault) => Err(fault),
         }
     }
 
     pub(crate) fn type_in(&self, words: &mut Cursor<'_>, lower: bool) -> Result<TypeSub, ParseError>
-        requires { Nests self.now.budget (E.pre self.now.level) (E.post self.now.level) (T.pre self.now.maybe_type) (T.post self.now.maybe_type) (B.pre self.now.braces) (B.post self.now.braces) }
+        requires { Nests self.now.budget (F.pre self.now.part) (F.post self.now.part) }
         ensures { Reads see_type (type_in (self.now.budget - 1) (readers (self.now.budget - 1)) lower words.old) result words.new }
     {
         if lower {
@@ -125,28 +146,33 @@ where
     }
 
     pub(crate) fn an_element(&self, words: &mut Cursor<'_>) -> Result<TypeSub, ParseError>
-        requires { Nests self.now.budget (E.pre self.now.level) (E.post self.now.level) (T.pre self.now.maybe_type) (T.post self.now.maybe_type) (B.pre self.now.braces) (B.post self.now.braces) }
+        requires { Nests self.now.budget (F.pre self.now.part) (F.post self.now.part) }
         ensures { Reads see_type (spec.an_element (self.now.budget - 1) (readers (self.now.budget - 1)) words.old) result words.new }
     {
-        match self.type_at(words, TypeSite::Element)? {
-            Some(of) => Ok(of),
-            None => Err(ParseError::Fault),
+        match self.type_at(words, TypeSite::Element) {
+            Ok(Some(of)) => Ok(of),
+            Ok(None) => Err(ParseError::Fault),
+            Err(fault) => Err(fault),
         }
     }
 
     /// An expression of one level less.
     pub fn an_expr(&self, words: &mut Cursor<'_>) -> Result<Sub, ParseError>
-        requires { Nests self.now.budget (E.pre self.now.level) (E.post self.now.level) (T.pre self.now.maybe_type) (T.post self.now.maybe_type) (B.pre self.now.braces) (B.post self.now.braces) }
+        requires { Nests self.now.budget (F.pre self.now.part) (F.post self.now.part) }
         ensures { Reads see (exprs.an_expr (self.now.budget - 1) (readers (self.now.budget - 1)) words.old) result words.new }
     {
         self.level_at(words, Site::Plain, 1)
     }
 
     /// The elements of a literal of one level less, behind its brace.
+    #[tactic(auto, using(crate::proofs::AskedReads::are_braces, crate::proofs::AskedReads::braces_read, crate::proofs::AskedReads::braces_fault))]
     pub fn nested_braces(&self, words: &mut Cursor<'_>) -> Result<Subs, ParseError>
-        requires { Nests self.now.budget (E.pre self.now.level) (E.post self.now.level) (T.pre self.now.maybe_type) (T.post self.now.maybe_type) (B.pre self.now.braces) (B.post self.now.braces) }
+        requires { Nests self.now.budget (F.pre self.now.part) (F.post self.now.part) }
         ensures { Reads see_all ((readers (self.now.budget - 1)).braces words.old) result words.new }
     {
-        (self.braces)(self.alloc, words, self.budget - 1)
+        match (self.part)(self.alloc, words, self.budget - 1, Ask::Braces) {
+            Ok(got) => Ok(got.into_braces()),
+            Err(fault) => Err(fault),
+        }
     }
 }

@@ -10,12 +10,13 @@ ghost use Rattle.ui_syntax.specs.Read.{readers};
 ghost use Rattle.ui_syntax.specs.Types as spec;
 
 use crate::grammar::Grammar;
-use crate::sub::{Groups, Sub, Subs, TypeSub, deeper, type_sub};
+use crate::nested::{Ask, Got};
+use crate::sub::{Groups, TypeSub, type_over, type_sub};
 use std::alloc::Global;
 use ui_base::Spot;
 use ui_parse::{Cursor, ParseError};
 use ui_scan::TokenKind;
-use ui_syntax::{Site, TypeSite};
+use ui_syntax::TypeSite;
 use ui_tree::{Boxed, Placed, Sig, TypeExpr};
 
 // The tree of results with its depth.
@@ -35,21 +36,25 @@ fn result_of(results: Option<TypeSub>) -> (Option<Boxed<TypeExpr>>, u32)
     }
 }
 
-impl<E, T, B> Grammar<E, T, B>
+impl<F> Grammar<F>
 where
-    E: Fn(Global, &mut Cursor<'_>, u32, Site, u8) -> Result<Sub, ParseError>,
-    T: Fn(Global, &mut Cursor<'_>, u32, TypeSite) -> Result<Option<TypeSub>, ParseError>,
-    B: Fn(Global, &mut Cursor<'_>, u32) -> Result<Subs, ParseError>,
+    F: Fn(Global, &mut Cursor<'_>, u32, Ask) -> Result<Got, ParseError>,
 {
     /// [ Type | Params ]. Parameters are a list of results, which only a signature has.
     #[tactic(auto, unfolding(ui_syntax::specs::Types::results, ui_parse::specs::Reader::take_by))]
     pub fn results(&self, words: &mut Cursor<'_>) -> Result<Option<TypeSub>, ParseError>
-        requires { Nests self.now.budget (E.pre self.now.level) (E.post self.now.level) (T.pre self.now.maybe_type) (T.post self.now.maybe_type) (B.pre self.now.braces) (B.post self.now.braces) }
+        requires { Nests self.now.budget (F.pre self.now.part) (F.post self.now.part) }
         ensures { Reads (see_results (self.now.budget - 1) (readers (self.now.budget - 1))) (spec.results (self.now.budget - 1) (readers (self.now.budget - 1)) words.old) result words.new }
     {
         if let Some(spot) = words.take(TokenKind::LParen) {
-            let Groups { items, depth } = self.params(words)?;
-            return Ok(Some(type_sub(self.alloc, TypeExpr::listed(spot, items), spot, depth)?));
+            let Groups { items, depth } = match self.params(words) {
+                Ok(params) => params,
+                Err(fault) => return Err(fault),
+            };
+            return match type_sub(self.alloc, TypeExpr::listed(spot, items), spot, depth) {
+                Ok(of) => Ok(Some(of)),
+                Err(_) => Err(ParseError::NoMemory),
+            };
         }
         self.type_at(words, TypeSite::Plain)
     }
@@ -57,35 +62,53 @@ where
     /// The func type of a signature, behind its parenthesis.
     #[tactic(auto, unfolding(ui_syntax::specs::Types::signature))]
     pub fn sig_type(&self, words: &mut Cursor<'_>, spot: Spot) -> Result<TypeSub, ParseError>
-        requires { Nests self.now.budget (E.pre self.now.level) (E.post self.now.level) (T.pre self.now.maybe_type) (T.post self.now.maybe_type) (B.pre self.now.braces) (B.post self.now.braces) }
+        requires { Nests self.now.budget (F.pre self.now.part) (F.post self.now.part) }
         ensures { Reads see_type (spec.signature (self.now.budget - 1) (readers (self.now.budget - 1)) (spec.func_of (self.now.budget - 1) (readers (self.now.budget - 1)) spot) words.old) result words.new }
     {
-        let params = self.params(words)?;
-        let results = self.results(words)?;
+        let params = match self.params(words) {
+            Ok(params) => params,
+            Err(fault) => return Err(fault),
+        };
+        let results = match self.results(words) {
+            Ok(results) => results,
+            Err(fault) => return Err(fault),
+        };
         let (results, deepest) = result_of(results);
-        let depth = deeper(params.depth.max(deepest))?;
+        let depth = params.depth.max(deepest);
         let sig = Sig {
             params: params.items,
             results,
         };
-        Ok(type_sub(self.alloc, TypeExpr::func(spot, sig), spot, depth)?)
+        match type_over(self.alloc, TypeExpr::func(spot, sig), spot, depth) {
+            Ok(of) => Ok(of),
+            Err(_) => Err(ParseError::NoMemory),
+        }
     }
 
     #[tactic(auto, unfolding(ui_syntax::specs::Types::signature))]
     pub(crate) fn method(&self, words: &mut Cursor<'_>, name: Placed) -> Result<TypeSub, ParseError>
-        requires { Nests self.now.budget (E.pre self.now.level) (E.post self.now.level) (T.pre self.now.maybe_type) (T.post self.now.maybe_type) (B.pre self.now.braces) (B.post self.now.braces) }
+        requires { Nests self.now.budget (F.pre self.now.part) (F.post self.now.part) }
         ensures { Reads see_type (spec.signature (self.now.budget - 1) (readers (self.now.budget - 1)) (spec.method_of (self.now.budget - 1) (readers (self.now.budget - 1)) name) words.old) result words.new }
     {
-        let params = self.params(words)?;
-        let results = self.results(words)?;
+        let params = match self.params(words) {
+            Ok(params) => params,
+            Err(fault) => return Err(fault),
+        };
+        let results = match self.results(words) {
+            Ok(results) => results,
+            Err(fault) => return Err(fault),
+        };
         let (results, deepest) = result_of(results);
-        let depth = deeper(params.depth.max(deepest))?;
+        let depth = params.depth.max(deepest);
         let sig = Sig {
             params: params.items,
             results,
         };
         let spot = name.spot;
-        Ok(type_sub(self.alloc, TypeExpr::method(name, sig), spot, depth)?)
+        match type_over(self.alloc, TypeExpr::method(name, sig), spot, depth) {
+            Ok(of) => Ok(of),
+            Err(_) => Err(ParseError::NoMemory),
+        }
     }
 
     pub(crate) fn func_type(
@@ -93,7 +116,7 @@ where
         words: &mut Cursor<'_>,
         spot: Spot,
     ) -> Result<TypeSub, ParseError>
-        requires { Nests self.now.budget (E.pre self.now.level) (E.post self.now.level) (T.pre self.now.maybe_type) (T.post self.now.maybe_type) (B.pre self.now.braces) (B.post self.now.braces) }
+        requires { Nests self.now.budget (F.pre self.now.part) (F.post self.now.part) }
         ensures { Reads see_type (spec.func_type (self.now.budget - 1) (readers (self.now.budget - 1)) spot words.old) result words.new }
     {
         words.expect(TokenKind::LParen)?;

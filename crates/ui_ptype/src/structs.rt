@@ -11,46 +11,56 @@ ghost use Rattle.ui_syntax.specs.Read.{readers};
 ghost use Rattle.ui_syntax.specs.Types as spec;
 
 use crate::grammar::Grammar;
-use crate::sub::{Groups, Sub, Subs, TypeSub, TypeSubs, deeper, type_sub};
+use crate::nested::{Ask, Got};
+use crate::sub::{Groups, TypeSub, TypeSubs, type_over};
 use std::alloc::Global;
 use ui_base::Spot;
 use ui_parse::{Cursor, ParseError, more_names, parts};
 use ui_scan::TokenKind;
-use ui_syntax::{Site, TypeSite};
 use ui_tree::{Items, Placed, TypeExpr};
 
 /// Names with commas between.
 pub fn name_list(alloc: Global, words: &mut Cursor<'_>) -> Result<Items<Placed>, ParseError>
     ensures { Reads (λ ns. ns) (the_names.names words.old) result words.new }
 {
-    let first = words.expect_name(alloc)?;
+    let first = match words.expect_name(alloc) {
+        Ok(first) => first,
+        Err(fault) => return Err(fault),
+    };
     let mut names = Items::new(alloc);
     names.push(first)?;
     more_names(alloc, words, names)
 }
 
-impl<E, T, B> Grammar<E, T, B>
+impl<F> Grammar<F>
 where
-    E: Fn(Global, &mut Cursor<'_>, u32, Site, u8) -> Result<Sub, ParseError>,
-    T: Fn(Global, &mut Cursor<'_>, u32, TypeSite) -> Result<Option<TypeSub>, ParseError>,
-    B: Fn(Global, &mut Cursor<'_>, u32) -> Result<Subs, ParseError>,
+    F: Fn(Global, &mut Cursor<'_>, u32, Ask) -> Result<Got, ParseError>,
 {
     // Names Type
     #[tactic(auto, unfolding(ui_syntax::specs::Types::field))]
     fn field(&self, words: &mut Cursor<'_>, fields: Groups) -> Result<Groups, ParseError>
-        requires { Nests self.now.budget (E.pre self.now.level) (E.post self.now.level) (T.pre self.now.maybe_type) (T.post self.now.maybe_type) (B.pre self.now.braces) (B.post self.now.braces) }
+        requires { Nests self.now.budget (F.pre self.now.part) (F.post self.now.part) }
         ensures { Reads see_groups (spec.field (self.now.budget - 1) (readers (self.now.budget - 1)) (see_groups fields) words.old) result words.new }
     {
         if self.budget < 2 {
             return Err(ParseError::Fault);
         }
-        let names = name_list(self.alloc, words)?;
-        let of = self.a_type(words)?;
-        Ok(fields.add(names, of)?)
+        let names = match name_list(self.alloc, words) {
+            Ok(names) => names,
+            Err(fault) => return Err(fault),
+        };
+        let of = match self.a_type(words) {
+            Ok(of) => of,
+            Err(fault) => return Err(fault),
+        };
+        match fields.add(names, of) {
+            Ok(fields) => Ok(fields),
+            Err(_) => Err(ParseError::NoMemory),
+        }
     }
 
     fn field_list(&self, words: &mut Cursor<'_>) -> Result<Groups, ParseError>
-        requires { Nests self.now.budget (E.pre self.now.level) (E.post self.now.level) (T.pre self.now.maybe_type) (T.post self.now.maybe_type) (B.pre self.now.braces) (B.post self.now.braces) }
+        requires { Nests self.now.budget (F.pre self.now.part) (F.post self.now.part) }
         ensures { Reads see_groups (reader.parts Semi RBrace spec.any_end (spec.field (self.now.budget - 1) (readers (self.now.budget - 1))) spec.empty words.old) result words.new }
     {
         let fields = Groups::new(self.alloc);
@@ -69,17 +79,18 @@ where
         words: &mut Cursor<'_>,
         spot: Spot,
     ) -> Result<TypeSub, ParseError>
-        requires { Nests self.now.budget (E.pre self.now.level) (E.post self.now.level) (T.pre self.now.maybe_type) (T.post self.now.maybe_type) (B.pre self.now.braces) (B.post self.now.braces) }
+        requires { Nests self.now.budget (F.pre self.now.part) (F.post self.now.part) }
         ensures { Reads see_type (spec.struct_type (self.now.budget - 1) (readers (self.now.budget - 1)) spot words.old) result words.new }
     {
         words.expect(TokenKind::LBrace)?;
-        let Groups { items, depth } = self.field_list(words)?;
-        Ok(type_sub(
-            self.alloc,
-            TypeExpr::structure(spot, items),
-            spot,
-            deeper(depth)?,
-        )?)
+        let Groups { items, depth } = match self.field_list(words) {
+            Ok(fields) => fields,
+            Err(fault) => return Err(fault),
+        };
+        match type_over(self.alloc, TypeExpr::structure(spot, items), spot, depth) {
+            Ok(of) => Ok(of),
+            Err(_) => Err(ParseError::NoMemory),
+        }
     }
 
     fn one_more_element(
@@ -87,15 +98,21 @@ where
         words: &mut Cursor<'_>,
         elems: TypeSubs,
     ) -> Result<TypeSubs, ParseError>
-        requires { Nests self.now.budget (E.pre self.now.level) (E.post self.now.level) (T.pre self.now.maybe_type) (T.post self.now.maybe_type) (B.pre self.now.braces) (B.post self.now.braces) }
+        requires { Nests self.now.budget (F.pre self.now.part) (F.post self.now.part) }
         ensures { Reads see_types (spec.one_more (spec.an_element (self.now.budget - 1) (readers (self.now.budget - 1))) (see_types elems) words.old) result words.new }
     {
-        let next = self.an_element(words)?;
-        Ok(elems.add(next)?)
+        let next = match self.an_element(words) {
+            Ok(next) => next,
+            Err(fault) => return Err(fault),
+        };
+        match elems.add(next) {
+            Ok(elems) => Ok(elems),
+            Err(_) => Err(ParseError::NoMemory),
+        }
     }
 
     fn element_list(&self, words: &mut Cursor<'_>) -> Result<TypeSubs, ParseError>
-        requires { Nests self.now.budget (E.pre self.now.level) (E.post self.now.level) (T.pre self.now.maybe_type) (T.post self.now.maybe_type) (B.pre self.now.braces) (B.post self.now.braces) }
+        requires { Nests self.now.budget (F.pre self.now.part) (F.post self.now.part) }
         ensures { Reads see_types (reader.parts Semi RBrace spec.any_end (spec.one_more (spec.an_element (self.now.budget - 1) (readers (self.now.budget - 1)))) spec.empty words.old) result words.new }
     {
         let elems = TypeSubs::new(self.alloc);
@@ -114,16 +131,17 @@ where
         words: &mut Cursor<'_>,
         spot: Spot,
     ) -> Result<TypeSub, ParseError>
-        requires { Nests self.now.budget (E.pre self.now.level) (E.post self.now.level) (T.pre self.now.maybe_type) (T.post self.now.maybe_type) (B.pre self.now.braces) (B.post self.now.braces) }
+        requires { Nests self.now.budget (F.pre self.now.part) (F.post self.now.part) }
         ensures { Reads see_type (spec.interface_type (self.now.budget - 1) (readers (self.now.budget - 1)) spot words.old) result words.new }
     {
         words.expect(TokenKind::LBrace)?;
-        let TypeSubs { items, depth } = self.element_list(words)?;
-        Ok(type_sub(
-            self.alloc,
-            TypeExpr::interface(spot, items),
-            spot,
-            deeper(depth)?,
-        )?)
+        let TypeSubs { items, depth } = match self.element_list(words) {
+            Ok(elems) => elems,
+            Err(fault) => return Err(fault),
+        };
+        match type_over(self.alloc, TypeExpr::interface(spot, items), spot, depth) {
+            Ok(of) => Ok(of),
+            Err(_) => Err(ParseError::NoMemory),
+        }
     }
 }

@@ -79,6 +79,24 @@ pub fn type_sub(alloc: Global, tree: TypeExpr, spot: Spot, depth: u32) -> Result
     })
 }
 
+/// The tree of an expression over parts so deep, with its spot and its own depth.
+pub fn expr_over(alloc: Global, tree: ExprTree, spot: Spot, depth: u32) -> Result<Sub, NoMemory>
+    ensures { IfOk result (λ s. see s ≡ of_tree (view tree) spot (suc depth)) }
+{
+    let tree = Boxed::new(alloc, tree)?;
+    let depth = deeper(depth)?;
+    Ok(Sub { tree, spot, depth })
+}
+
+/// The tree of a type over parts so deep, with its spot and its own depth.
+pub fn type_over(alloc: Global, tree: TypeExpr, spot: Spot, depth: u32) -> Result<TypeSub, NoMemory>
+    ensures { IfOk result (λ s. see_type s ≡ of_type (type_view tree) spot (suc depth)) }
+{
+    let tree = Boxed::new(alloc, tree)?;
+    let depth = deeper(depth)?;
+    Ok(TypeSub { tree, spot, depth })
+}
+
 impl Subs {
     /// None yet.
     pub fn new(alloc: Global) -> Subs

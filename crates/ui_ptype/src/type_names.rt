@@ -10,12 +10,12 @@ ghost use Rattle.ui_syntax.specs.Read.{readers};
 ghost use Rattle.ui_syntax.specs.Types as spec;
 
 use crate::grammar::Grammar;
-use crate::sub::{Sub, Subs, TypeSub, TypeSubs, deeper, type_sub};
+use crate::nested::{Ask, Got};
+use crate::sub::{TypeSub, TypeSubs, type_over, type_sub};
 use std::alloc::Global;
 use ui_base::NoMemory;
 use ui_parse::{Cursor, ParseError, more_parts, parts};
 use ui_scan::TokenKind;
-use ui_syntax::{Site, TypeSite};
 use ui_tree::{Placed, TypeExpr};
 
 fn name_depth(member: &Option<Placed>) -> u32
@@ -24,11 +24,27 @@ fn name_depth(member: &Option<Placed>) -> u32
     if member.is_some() { 2 } else { 1 }
 }
 
-impl<E, T, B> Grammar<E, T, B>
+pub(crate) fn with_args(
+    alloc: Global,
+    name: Placed,
+    member: Option<Placed>,
+    args: TypeSubs,
+) -> Result<TypeSub, NoMemory>
+    ensures { IfOk result (λ t. see_type t ≡ spec.named_with name member (see_types args)) }
+{
+    let spot = name.spot;
+    let depth = name_depth(&member).max(args.depth);
+    type_over(
+        alloc,
+        TypeExpr::named(name, member, Some(args.items)),
+        spot,
+        depth,
+    )
+}
+
+impl<F> Grammar<F>
 where
-    E: Fn(Global, &mut Cursor<'_>, u32, Site, u8) -> Result<Sub, ParseError>,
-    T: Fn(Global, &mut Cursor<'_>, u32, TypeSite) -> Result<Option<TypeSub>, ParseError>,
-    B: Fn(Global, &mut Cursor<'_>, u32) -> Result<Subs, ParseError>,
+    F: Fn(Global, &mut Cursor<'_>, u32, Ask) -> Result<Got, ParseError>,
 {
     fn one_more(
         &self,
@@ -36,11 +52,17 @@ where
         lower: bool,
         all: TypeSubs,
     ) -> Result<TypeSubs, ParseError>
-        requires { Nests self.now.budget (E.pre self.now.level) (E.post self.now.level) (T.pre self.now.maybe_type) (T.post self.now.maybe_type) (B.pre self.now.braces) (B.post self.now.braces) }
+        requires { Nests self.now.budget (F.pre self.now.part) (F.post self.now.part) }
         ensures { Reads see_types (spec.one_more (type_in (self.now.budget - 1) (readers (self.now.budget - 1)) lower) (see_types all) words.old) result words.new }
     {
-        let next = self.type_in(words, lower)?;
-        Ok(all.add(next)?)
+        let next = match self.type_in(words, lower) {
+            Ok(next) => next,
+            Err(fault) => return Err(fault),
+        };
+        match all.add(next) {
+            Ok(all) => Ok(all),
+            Err(_) => Err(ParseError::NoMemory),
+        }
     }
 
     /// What follows the first type argument, up to the bracket. The types have one level less, or two.
@@ -50,10 +72,13 @@ where
         lower: bool,
         first: TypeSub,
     ) -> Result<TypeSubs, ParseError>
-        requires { Nests self.now.budget (E.pre self.now.level) (E.post self.now.level) (T.pre self.now.maybe_type) (T.post self.now.maybe_type) (B.pre self.now.braces) (B.post self.now.braces) }
+        requires { Nests self.now.budget (F.pre self.now.part) (F.post self.now.part) }
         ensures { Reads see_types (spec.more_args (type_in (self.now.budget - 1) (readers (self.now.budget - 1)) lower) (spec.only (see_type first).tree first.depth) words.old) result words.new }
     {
-        let all = TypeSubs::only(self.alloc, first)?;
+        let all = match TypeSubs::only(self.alloc, first) {
+            Ok(all) => all,
+            Err(_) => return Err(ParseError::NoMemory),
+        };
         more_parts(
             words,
             TokenKind::Comma,
@@ -70,10 +95,13 @@ where
         lower: bool,
         first: TypeSub,
     ) -> Result<TypeSubs, ParseError>
-        requires { Nests self.now.budget (E.pre self.now.level) (E.post self.now.level) (T.pre self.now.maybe_type) (T.post self.now.maybe_type) (B.pre self.now.braces) (B.post self.now.braces) }
+        requires { Nests self.now.budget (F.pre self.now.part) (F.post self.now.part) }
         ensures { Reads see_types (spec.args_behind (type_in (self.now.budget - 1) (readers (self.now.budget - 1)) lower) (spec.only (see_type first).tree first.depth) words.old) result words.new }
     {
-        let all = TypeSubs::only(self.alloc, first)?;
+        let all = match TypeSubs::only(self.alloc, first) {
+            Ok(all) => all,
+            Err(_) => return Err(ParseError::NoMemory),
+        };
         parts(
             words,
             TokenKind::Comma,
@@ -81,20 +109,6 @@ where
             all,
             &|words: &mut Cursor<'_>, all| self.one_more(words, lower, all),
         )
-    }
-
-    pub(crate) fn with_args(
-        &self,
-        name: Placed,
-        member: Option<Placed>,
-        args: TypeSubs,
-    ) -> Result<TypeSub, NoMemory>
-        ensures { IfOk result (λ t. see_type t ≡ spec.named_with name member (see_types args)) }
-    {
-        let spot = name.spot;
-        let depth = deeper(name_depth(&member).max(args.depth))?;
-        let tree = TypeExpr::named(name, member, Some(args.items));
-        Ok(type_sub(self.alloc, tree, spot, depth)?)
     }
 
     // [ TArgs ], where there is room: the arguments have one level less.
@@ -107,17 +121,29 @@ where
         name: Placed,
         member: Option<Placed>,
     ) -> Result<TypeSub, ParseError>
-        requires { Nests self.now.budget (E.pre self.now.level) (E.post self.now.level) (T.pre self.now.maybe_type) (T.post self.now.maybe_type) (B.pre self.now.braces) (B.post self.now.braces) }
+        requires { Nests self.now.budget (F.pre self.now.part) (F.post self.now.part) }
         ensures { Reads see_type (spec.maybe_args room (type_in (self.now.budget - 1) (readers (self.now.budget - 1)) lower) name member words.old) result words.new }
     {
         let depth = name_depth(&member);
         if depth < room && words.take(TokenKind::LBracket).is_some() {
-            let first = self.type_in(words, lower)?;
-            let args = self.more_args(words, lower, first)?;
-            return Ok(self.with_args(name, member, args)?);
+            let first = match self.type_in(words, lower) {
+                Ok(first) => first,
+                Err(fault) => return Err(fault),
+            };
+            let args = match self.more_args(words, lower, first) {
+                Ok(args) => args,
+                Err(fault) => return Err(fault),
+            };
+            return match with_args(self.alloc, name, member, args) {
+                Ok(of) => Ok(of),
+                Err(_) => Err(ParseError::NoMemory),
+            };
         }
         let spot = name.spot;
-        Ok(type_sub(self.alloc, TypeExpr::named(name, member, None), spot, depth)?)
+        match type_sub(self.alloc, TypeExpr::named(name, member, None), spot, depth) {
+            Ok(of) => Ok(of),
+            Err(_) => Err(ParseError::NoMemory),
+        }
     }
 
     // [ "." name ] [ TArgs ], behind a name.
@@ -126,7 +152,7 @@ where
         words: &mut Cursor<'_>,
         name: Placed,
     ) -> Result<TypeSub, ParseError>
-        requires { Nests self.now.budget (E.pre self.now.level) (E.post self.now.level) (T.pre self.now.maybe_type) (T.post self.now.maybe_type) (B.pre self.now.braces) (B.post self.now.braces) }
+        requires { Nests self.now.budget (F.pre self.now.part) (F.post self.now.part) }
         ensures { Reads see_type (spec.named_type (suc (self.now.budget - 1)) (spec.a_type (self.now.budget - 1) (readers (self.now.budget - 1))) name words.old) result words.new }
     {
         if self.budget < 2 {
@@ -134,7 +160,10 @@ where
         }
         match words.take(TokenKind::Period) {
             Some(_) => {
-                let member = words.expect_name(self.alloc)?;
+                let member = match words.expect_name(self.alloc) {
+                    Ok(member) => member,
+                    Err(fault) => return Err(fault),
+                };
                 self.maybe_args(words, self.budget, false, name, Some(member))
             }
             None => self.maybe_args(words, self.budget, false, name, None),

@@ -10,7 +10,8 @@ ghost use Rattle.ui_syntax.specs.Read.{readers};
 ghost use Rattle.ui_syntax.specs.Types as spec;
 
 use crate::grammar::Grammar;
-use crate::sub::{Sub, Subs, TypeSub, deeper, type_sub};
+use crate::nested::{Ask, Got};
+use crate::sub::{TypeSub, type_over};
 use std::alloc::Global;
 use ui_base::Spot;
 use ui_parse::{Cursor, ParseError};
@@ -18,43 +19,65 @@ use ui_scan::TokenKind;
 use ui_syntax::{Site, TypeSite};
 use ui_tree::TypeExpr;
 
-impl<E, T, B> Grammar<E, T, B>
+impl<F> Grammar<F>
 where
-    E: Fn(Global, &mut Cursor<'_>, u32, Site, u8) -> Result<Sub, ParseError>,
-    T: Fn(Global, &mut Cursor<'_>, u32, TypeSite) -> Result<Option<TypeSub>, ParseError>,
-    B: Fn(Global, &mut Cursor<'_>, u32) -> Result<Subs, ParseError>,
+    F: Fn(Global, &mut Cursor<'_>, u32, Ask) -> Result<Got, ParseError>,
 {
     fn map_type(&self, words: &mut Cursor<'_>, spot: Spot) -> Result<TypeSub, ParseError>
-        requires { Nests self.now.budget (E.pre self.now.level) (E.post self.now.level) (T.pre self.now.maybe_type) (T.post self.now.maybe_type) (B.pre self.now.braces) (B.post self.now.braces) }
+        requires { Nests self.now.budget (F.pre self.now.part) (F.post self.now.part) }
         ensures { Reads see_type (spec.map_type (self.now.budget - 1) (readers (self.now.budget - 1)) spot words.old) result words.new }
     {
-        words.expect(TokenKind::LBracket)?;
-        let key = self.a_type(words)?;
-        words.expect(TokenKind::RBracket)?;
-        let of = self.a_type(words)?;
-        let depth = deeper(key.depth.max(of.depth))?;
-        Ok(type_sub(
+        if let Err(fault) = words.expect(TokenKind::LBracket) {
+            return Err(fault);
+        }
+        let key = match self.a_type(words) {
+            Ok(key) => key,
+            Err(fault) => return Err(fault),
+        };
+        if let Err(fault) = words.expect(TokenKind::RBracket) {
+            return Err(fault);
+        }
+        let of = match self.a_type(words) {
+            Ok(of) => of,
+            Err(fault) => return Err(fault),
+        };
+        let depth = key.depth.max(of.depth);
+        match type_over(
             self.alloc,
             TypeExpr::map(spot, key.tree, of.tree),
             spot,
             depth,
-        )?)
+        ) {
+            Ok(of) => Ok(of),
+            Err(_) => Err(ParseError::NoMemory),
+        }
     }
 
     fn array_type(&self, words: &mut Cursor<'_>, spot: Spot) -> Result<TypeSub, ParseError>
-        requires { Nests self.now.budget (E.pre self.now.level) (E.post self.now.level) (T.pre self.now.maybe_type) (T.post self.now.maybe_type) (B.pre self.now.braces) (B.post self.now.braces) }
+        requires { Nests self.now.budget (F.pre self.now.part) (F.post self.now.part) }
         ensures { Reads see_type (spec.array_type (self.now.budget - 1) (readers (self.now.budget - 1)) spot words.old) result words.new }
     {
-        let len = self.level_at(words, Site::Plain, 1)?;
-        words.expect(TokenKind::RBracket)?;
-        let of = self.a_type(words)?;
-        let depth = deeper(len.depth.max(of.depth))?;
-        Ok(type_sub(
+        let len = match self.level_at(words, Site::Plain, 1) {
+            Ok(len) => len,
+            Err(fault) => return Err(fault),
+        };
+        if let Err(fault) = words.expect(TokenKind::RBracket) {
+            return Err(fault);
+        }
+        let of = match self.a_type(words) {
+            Ok(of) => of,
+            Err(fault) => return Err(fault),
+        };
+        let depth = len.depth.max(of.depth);
+        match type_over(
             self.alloc,
             TypeExpr::array(spot, len.tree, of.tree),
             spot,
             depth,
-        )?)
+        ) {
+            Ok(of) => Ok(of),
+            Err(_) => Err(ParseError::NoMemory),
+        }
     }
 
     fn counted_type(
@@ -63,13 +86,21 @@ where
         lower: bool,
         spot: Spot,
     ) -> Result<TypeSub, ParseError>
-        requires { Nests self.now.budget (E.pre self.now.level) (E.post self.now.level) (T.pre self.now.maybe_type) (T.post self.now.maybe_type) (B.pre self.now.braces) (B.post self.now.braces) }
+        requires { Nests self.now.budget (F.pre self.now.part) (F.post self.now.part) }
         ensures { Reads see_type (spec.counted_type (self.now.budget - 1) (readers (self.now.budget - 1)) (type_in (self.now.budget - 1) (readers (self.now.budget - 1)) lower) spot words.old) result words.new }
     {
-        words.expect(TokenKind::RBracket)?;
-        let of = self.type_in(words, lower)?;
-        let depth = deeper(of.depth)?;
-        Ok(type_sub(self.alloc, TypeExpr::counted(spot, of.tree), spot, depth)?)
+        if let Err(fault) = words.expect(TokenKind::RBracket) {
+            return Err(fault);
+        }
+        let of = match self.type_in(words, lower) {
+            Ok(of) => of,
+            Err(fault) => return Err(fault),
+        };
+        let depth = of.depth;
+        match type_over(self.alloc, TypeExpr::counted(spot, of.tree), spot, depth) {
+            Ok(of) => Ok(of),
+            Err(_) => Err(ParseError::NoMemory),
+        }
     }
 
     // [...]T has a literal behind it, for which there has to be room.
@@ -80,7 +111,7 @@ where
         site: TypeSite,
         spot: Spot,
     ) -> Result<TypeSub, ParseError>
-        requires { Nests self.now.budget (E.pre self.now.level) (E.post self.now.level) (T.pre self.now.maybe_type) (T.post self.now.maybe_type) (B.pre self.now.braces) (B.post self.now.braces) }
+        requires { Nests self.now.budget (F.pre self.now.part) (F.post self.now.part) }
         ensures { Reads see_type (spec.counted_or_array (self.now.budget - 1) (readers (self.now.budget - 1)) site spot words.old) result words.new }
     {
         let lower = match site {
@@ -102,15 +133,21 @@ where
         site: TypeSite,
         spot: Spot,
     ) -> Result<TypeSub, ParseError>
-        requires { Nests self.now.budget (E.pre self.now.level) (E.post self.now.level) (T.pre self.now.maybe_type) (T.post self.now.maybe_type) (B.pre self.now.braces) (B.post self.now.braces) }
+        requires { Nests self.now.budget (F.pre self.now.part) (F.post self.now.part) }
         ensures { Reads see_type (spec.bracket_type (self.now.budget - 1) (readers (self.now.budget - 1)) site spot words.old) result words.new }
     {
         if words.take(TokenKind::RBracket).is_none() {
             return self.counted_or_array(words, site, spot);
         }
-        let of = self.a_type(words)?;
-        let depth = deeper(of.depth)?;
-        Ok(type_sub(self.alloc, TypeExpr::slice(spot, of.tree), spot, depth)?)
+        let of = match self.a_type(words) {
+            Ok(of) => of,
+            Err(fault) => return Err(fault),
+        };
+        let depth = of.depth;
+        match type_over(self.alloc, TypeExpr::slice(spot, of.tree), spot, depth) {
+            Ok(of) => Ok(of),
+            Err(_) => Err(ParseError::NoMemory),
+        }
     }
 
     #[tactic(auto, unfolding(ui_parse::specs::Reader::take_by))]
@@ -119,17 +156,23 @@ where
         words: &mut Cursor<'_>,
         site: TypeSite,
     ) -> Result<Option<TypeSub>, ParseError>
-        requires { Nests self.now.budget (E.pre self.now.level) (E.post self.now.level) (T.pre self.now.maybe_type) (T.post self.now.maybe_type) (B.pre self.now.braces) (B.post self.now.braces) }
+        requires { Nests self.now.budget (F.pre self.now.part) (F.post self.now.part) }
         ensures { Reads see_maybe (spec.deep_type (self.now.budget - 1) (readers (self.now.budget - 1)) site (pure None) words.old) result words.new }
     {
         if self.budget < 2 {
             return Ok(None);
         }
         if let Some(spot) = words.take(TokenKind::LBracket) {
-            return Ok(Some(self.bracket_type(words, site, spot)?));
+            return match self.bracket_type(words, site, spot) {
+                Ok(of) => Ok(Some(of)),
+                Err(fault) => Err(fault),
+            };
         }
         match words.take(TokenKind::Map) {
-            Some(spot) => Ok(Some(self.map_type(words, spot)?)),
+            Some(spot) => match self.map_type(words, spot) {
+                Ok(of) => Ok(Some(of)),
+                Err(fault) => Err(fault),
+            },
             None => Ok(None),
         }
     }
@@ -141,58 +184,87 @@ where
         words: &mut Cursor<'_>,
         site: TypeSite,
     ) -> Result<Option<TypeSub>, ParseError>
-        requires { Nests self.now.budget (E.pre self.now.level) (E.post self.now.level) (T.pre self.now.maybe_type) (T.post self.now.maybe_type) (B.pre self.now.braces) (B.post self.now.braces) }
+        requires { Nests self.now.budget (F.pre self.now.part) (F.post self.now.part) }
         ensures { Reads see_maybe (spec.operand_type (self.now.budget - 1) (readers (self.now.budget - 1)) site (pure None) words.old) result words.new }
     {
         if let Some(spot) = words.take(TokenKind::Func) {
-            return Ok(Some(self.func_type(words, spot)?));
+            return match self.func_type(words, spot) {
+                Ok(of) => Ok(Some(of)),
+                Err(fault) => Err(fault),
+            };
         }
         if let Some(spot) = words.take(TokenKind::Struct) {
-            return Ok(Some(self.struct_type(words, spot)?));
+            return match self.struct_type(words, spot) {
+                Ok(of) => Ok(Some(of)),
+                Err(fault) => Err(fault),
+            };
         }
         match words.take(TokenKind::Interface) {
-            Some(spot) => Ok(Some(self.interface_type(words, spot)?)),
+            Some(spot) => match self.interface_type(words, spot) {
+                Ok(of) => Ok(Some(of)),
+                Err(fault) => Err(fault),
+            },
             None => self.deep_type(words, site),
         }
     }
 
     fn pointer_type(&self, words: &mut Cursor<'_>, spot: Spot) -> Result<TypeSub, ParseError>
-        requires { Nests self.now.budget (E.pre self.now.level) (E.post self.now.level) (T.pre self.now.maybe_type) (T.post self.now.maybe_type) (B.pre self.now.braces) (B.post self.now.braces) }
+        requires { Nests self.now.budget (F.pre self.now.part) (F.post self.now.part) }
         ensures { Reads see_type (spec.pointer_type (self.now.budget - 1) (readers (self.now.budget - 1)) spot words.old) result words.new }
     {
-        let of = self.a_type(words)?;
-        let depth = deeper(of.depth)?;
-        Ok(type_sub(self.alloc, TypeExpr::pointer(spot, of.tree), spot, depth)?)
+        let of = match self.a_type(words) {
+            Ok(of) => of,
+            Err(fault) => return Err(fault),
+        };
+        let depth = of.depth;
+        match type_over(self.alloc, TypeExpr::pointer(spot, of.tree), spot, depth) {
+            Ok(of) => Ok(of),
+            Err(_) => Err(ParseError::NoMemory),
+        }
     }
 
     fn parenthesized_type(&self, words: &mut Cursor<'_>, spot: Spot) -> Result<TypeSub, ParseError>
-        requires { Nests self.now.budget (E.pre self.now.level) (E.post self.now.level) (T.pre self.now.maybe_type) (T.post self.now.maybe_type) (B.pre self.now.braces) (B.post self.now.braces) }
+        requires { Nests self.now.budget (F.pre self.now.part) (F.post self.now.part) }
         ensures { Reads see_type (spec.parenthesized_type (self.now.budget - 1) (readers (self.now.budget - 1)) spot words.old) result words.new }
     {
-        let of = self.a_type(words)?;
-        words.expect(TokenKind::RParen)?;
-        let depth = deeper(of.depth)?;
-        Ok(type_sub(
+        let of = match self.a_type(words) {
+            Ok(of) => of,
+            Err(fault) => return Err(fault),
+        };
+        if let Err(fault) = words.expect(TokenKind::RParen) {
+            return Err(fault);
+        }
+        let depth = of.depth;
+        match type_over(
             self.alloc,
             TypeExpr::parenthesized(spot, of.tree),
             spot,
             depth,
-        )?)
+        ) {
+            Ok(of) => Ok(of),
+            Err(_) => Err(ParseError::NoMemory),
+        }
     }
 
     #[tactic(auto, unfolding(ui_parse::specs::Reader::take_by))]
     fn marked_type(&self, words: &mut Cursor<'_>) -> Result<Option<TypeSub>, ParseError>
-        requires { Nests self.now.budget (E.pre self.now.level) (E.post self.now.level) (T.pre self.now.maybe_type) (T.post self.now.maybe_type) (B.pre self.now.braces) (B.post self.now.braces) }
+        requires { Nests self.now.budget (F.pre self.now.part) (F.post self.now.part) }
         ensures { Reads see_maybe (spec.marked_type (self.now.budget - 1) (readers (self.now.budget - 1)) words.old) result words.new }
     {
         if self.budget < 2 {
             return Ok(None);
         }
         if let Some(spot) = words.take(TokenKind::Mul) {
-            return Ok(Some(self.pointer_type(words, spot)?));
+            return match self.pointer_type(words, spot) {
+                Ok(of) => Ok(Some(of)),
+                Err(fault) => Err(fault),
+            };
         }
         match words.take(TokenKind::LParen) {
-            Some(spot) => Ok(Some(self.parenthesized_type(words, spot)?)),
+            Some(spot) => match self.parenthesized_type(words, spot) {
+                Ok(of) => Ok(Some(of)),
+                Err(fault) => Err(fault),
+            },
             None => Ok(None),
         }
     }
@@ -200,24 +272,29 @@ where
     // A type without a name.
     #[tactic(auto, using(crate::proofs::CodeReaders::reads_other))]
     pub(crate) fn other_type(&self, words: &mut Cursor<'_>) -> Result<Option<TypeSub>, ParseError>
-        requires { Nests self.now.budget (E.pre self.now.level) (E.post self.now.level) (T.pre self.now.maybe_type) (T.post self.now.maybe_type) (B.pre self.now.braces) (B.post self.now.braces) }
+        requires { Nests self.now.budget (F.pre self.now.part) (F.post self.now.part) }
         ensures { Reads see_maybe (spec.other_type (self.now.budget - 1) (readers (self.now.budget - 1)) words.old) result words.new }
     {
-        match self.operand_type(words, TypeSite::Plain)? {
-            Some(of) => Ok(Some(of)),
-            None => self.marked_type(words),
+        match self.operand_type(words, TypeSite::Plain) {
+            Ok(Some(of)) => Ok(Some(of)),
+            Ok(None) => self.marked_type(words),
+            Err(fault) => Err(fault),
         }
     }
 
     /// A type within the budget, where one begins.
     #[tactic(auto, unfolding(ui_syntax::specs::Types::plain_type, ui_parse::specs::Reader::take_by))]
     pub fn plain_type(&self, words: &mut Cursor<'_>) -> Result<Option<TypeSub>, ParseError>
-        requires { Nests self.now.budget (E.pre self.now.level) (E.post self.now.level) (T.pre self.now.maybe_type) (T.post self.now.maybe_type) (B.pre self.now.braces) (B.post self.now.braces) }
+        requires { Nests self.now.budget (F.pre self.now.part) (F.post self.now.part) }
         ensures { Reads see_maybe (spec.plain_type (self.now.budget - 1) (readers (self.now.budget - 1)) words.old) result words.new }
     {
-        match words.take_name(self.alloc)? {
-            Some(name) => Ok(Some(self.named_type(words, name)?)),
-            None => self.other_type(words),
+        match words.take_name(self.alloc) {
+            Ok(Some(name)) => match self.named_type(words, name) {
+                Ok(of) => Ok(Some(of)),
+                Err(fault) => Err(fault),
+            },
+            Ok(None) => self.other_type(words),
+            Err(_) => Err(ParseError::NoMemory),
         }
     }
 
@@ -228,7 +305,7 @@ where
         words: &mut Cursor<'_>,
         site: TypeSite,
     ) -> Result<Option<TypeSub>, ParseError>
-        requires { Nests self.now.budget (E.pre self.now.level) (E.post self.now.level) (T.pre self.now.maybe_type) (T.post self.now.maybe_type) (B.pre self.now.braces) (B.post self.now.braces) }
+        requires { Nests self.now.budget (F.pre self.now.part) (F.post self.now.part) }
         ensures { Reads see_maybe (spec.maybe_type (self.now.budget - 1) (readers (self.now.budget - 1)) site words.old) result words.new }
     {
         match site {

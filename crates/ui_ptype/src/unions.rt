@@ -11,44 +11,49 @@ ghost use Rattle.ui_syntax.specs.Read.{readers};
 ghost use Rattle.ui_syntax.specs.Types as spec;
 
 use crate::grammar::Grammar;
-use crate::sub::{Sub, Subs, TypeSub, TypeSubs, type_sub};
+use crate::nested::{Ask, Got};
+use crate::sub::{TypeSub, TypeSubs, type_sub};
 use std::alloc::Global;
 use ui_base::Spot;
 use ui_parse::{Cursor, ParseError, chain};
 use ui_scan::TokenKind;
-use ui_syntax::{Site, TypeSite};
 use ui_tree::{Placed, TypeExpr};
 
-impl<E, T, B> Grammar<E, T, B>
+impl<F> Grammar<F>
 where
-    E: Fn(Global, &mut Cursor<'_>, u32, Site, u8) -> Result<Sub, ParseError>,
-    T: Fn(Global, &mut Cursor<'_>, u32, TypeSite) -> Result<Option<TypeSub>, ParseError>,
-    B: Fn(Global, &mut Cursor<'_>, u32) -> Result<Subs, ParseError>,
+    F: Fn(Global, &mut Cursor<'_>, u32, Ask) -> Result<Got, ParseError>,
 {
     fn own_plain(&self, words: &mut Cursor<'_>) -> Result<TypeSub, ParseError>
-        requires { Nests self.now.budget (E.pre self.now.level) (E.post self.now.level) (T.pre self.now.maybe_type) (T.post self.now.maybe_type) (B.pre self.now.braces) (B.post self.now.braces) }
+        requires { Nests self.now.budget (F.pre self.now.part) (F.post self.now.part) }
         ensures { Reads see_type (own_plain (self.now.budget - 1) (readers (self.now.budget - 1)) words.old) result words.new }
     {
-        match self.plain_type(words)? {
-            Some(of) => Ok(of),
-            None => Err(ParseError::Fault),
+        match self.plain_type(words) {
+            Ok(Some(of)) => Ok(of),
+            Ok(None) => Err(ParseError::Fault),
+            Err(fault) => Err(fault),
         }
     }
 
     /// A term's type, behind "~".
     pub fn tilde(&self, words: &mut Cursor<'_>, spot: Spot) -> Result<TypeSub, ParseError>
-        requires { Nests self.now.budget (E.pre self.now.level) (E.post self.now.level) (T.pre self.now.maybe_type) (T.post self.now.maybe_type) (B.pre self.now.braces) (B.post self.now.braces) }
+        requires { Nests self.now.budget (F.pre self.now.part) (F.post self.now.part) }
         ensures { Reads see_type (tilde_type (self.now.budget - 1) (readers (self.now.budget - 1)) spot words.old) result words.new }
     {
-        let of = self.own_plain(words)?;
+        let of = match self.own_plain(words) {
+            Ok(of) => of,
+            Err(fault) => return Err(fault),
+        };
         let depth = of.depth;
-        Ok(type_sub(self.alloc, TypeExpr::tilde(spot, of.tree), spot, depth)?)
+        match type_sub(self.alloc, TypeExpr::tilde(spot, of.tree), spot, depth) {
+            Ok(of) => Ok(of),
+            Err(_) => Err(ParseError::NoMemory),
+        }
     }
 
     // [ "~" ] Type
     #[tactic(auto, unfolding(ui_syntax::specs::Types::term, ui_parse::specs::Reader::take_by))]
     fn term(&self, words: &mut Cursor<'_>) -> Result<TypeSub, ParseError>
-        requires { Nests self.now.budget (E.pre self.now.level) (E.post self.now.level) (T.pre self.now.maybe_type) (T.post self.now.maybe_type) (B.pre self.now.braces) (B.post self.now.braces) }
+        requires { Nests self.now.budget (F.pre self.now.part) (F.post self.now.part) }
         ensures { Reads see_type (spec.term (self.now.budget - 1) (readers (self.now.budget - 1)) words.old) result words.new }
     {
         match words.take(TokenKind::Tilde) {
@@ -58,18 +63,27 @@ where
     }
 
     fn one_more_term(&self, words: &mut Cursor<'_>, terms: TypeSubs) -> Result<TypeSubs, ParseError>
-        requires { Nests self.now.budget (E.pre self.now.level) (E.post self.now.level) (T.pre self.now.maybe_type) (T.post self.now.maybe_type) (B.pre self.now.braces) (B.post self.now.braces) }
+        requires { Nests self.now.budget (F.pre self.now.part) (F.post self.now.part) }
         ensures { Reads see_types (spec.one_more (spec.term (self.now.budget - 1) (readers (self.now.budget - 1))) (see_types terms) words.old) result words.new }
     {
-        let next = self.term(words)?;
-        Ok(terms.add(next)?)
+        let next = match self.term(words) {
+            Ok(next) => next,
+            Err(fault) => return Err(fault),
+        };
+        match terms.add(next) {
+            Ok(terms) => Ok(terms),
+            Err(_) => Err(ParseError::NoMemory),
+        }
     }
 
     fn more_terms(&self, words: &mut Cursor<'_>, first: TypeSub) -> Result<TypeSubs, ParseError>
-        requires { Nests self.now.budget (E.pre self.now.level) (E.post self.now.level) (T.pre self.now.maybe_type) (T.post self.now.maybe_type) (B.pre self.now.braces) (B.post self.now.braces) }
+        requires { Nests self.now.budget (F.pre self.now.part) (F.post self.now.part) }
         ensures { Reads see_types (reader.chain Or (spec.one_more (spec.term (self.now.budget - 1) (readers (self.now.budget - 1)))) (spec.only (see_type first).tree first.depth) words.old) result words.new }
     {
-        let terms = TypeSubs::only(self.alloc, first)?;
+        let terms = match TypeSubs::only(self.alloc, first) {
+            Ok(terms) => terms,
+            Err(_) => return Err(ParseError::NoMemory),
+        };
         chain(
             words,
             TokenKind::Or,
@@ -85,12 +99,18 @@ where
         words: &mut Cursor<'_>,
         first: TypeSub,
     ) -> Result<Option<TypeSub>, ParseError>
-        requires { Nests self.now.budget (E.pre self.now.level) (E.post self.now.level) (T.pre self.now.maybe_type) (T.post self.now.maybe_type) (B.pre self.now.braces) (B.post self.now.braces) }
+        requires { Nests self.now.budget (F.pre self.now.part) (F.post self.now.part) }
         ensures { Reads see_maybe (spec.union_from (self.now.budget - 1) (readers (self.now.budget - 1)) (see_type first) words.old) result words.new }
     {
         let spot = first.spot;
-        let TypeSubs { items, depth } = self.more_terms(words, first)?;
-        Ok(Some(type_sub(self.alloc, TypeExpr::union(spot, items), spot, depth)?))
+        let TypeSubs { items, depth } = match self.more_terms(words, first) {
+            Ok(terms) => terms,
+            Err(fault) => return Err(fault),
+        };
+        match type_sub(self.alloc, TypeExpr::union(spot, items), spot, depth) {
+            Ok(of) => Ok(Some(of)),
+            Err(_) => Err(ParseError::NoMemory),
+        }
     }
 
     // Behind a name: Sig, or the rest of a term and more terms.
@@ -100,32 +120,44 @@ where
         words: &mut Cursor<'_>,
         name: Placed,
     ) -> Result<Option<TypeSub>, ParseError>
-        requires { Nests self.now.budget (E.pre self.now.level) (E.post self.now.level) (T.pre self.now.maybe_type) (T.post self.now.maybe_type) (B.pre self.now.braces) (B.post self.now.braces) }
+        requires { Nests self.now.budget (F.pre self.now.part) (F.post self.now.part) }
         ensures { Reads see_maybe (named_element (self.now.budget - 1) (readers (self.now.budget - 1)) name words.old) result words.new }
     {
         if words.take(TokenKind::LParen).is_some() {
-            return Ok(Some(self.method(words, name)?));
+            return match self.method(words, name) {
+                Ok(of) => Ok(Some(of)),
+                Err(fault) => Err(fault),
+            };
         }
-        let first = self.named_type(words, name)?;
+        let first = match self.named_type(words, name) {
+            Ok(first) => first,
+            Err(fault) => return Err(fault),
+        };
         self.union_from(words, first)
     }
 
     // name Sig | Term { "|" Term }
     #[tactic(auto, unfolding(ui_syntax::specs::Types::element, ui_parse::specs::Reader::take_by))]
     pub(crate) fn element(&self, words: &mut Cursor<'_>) -> Result<Option<TypeSub>, ParseError>
-        requires { Nests self.now.budget (E.pre self.now.level) (E.post self.now.level) (T.pre self.now.maybe_type) (T.post self.now.maybe_type) (B.pre self.now.braces) (B.post self.now.braces) }
+        requires { Nests self.now.budget (F.pre self.now.part) (F.post self.now.part) }
         ensures { Reads see_maybe (spec.element (self.now.budget - 1) (readers (self.now.budget - 1)) words.old) result words.new }
     {
-        if let Some(name) = words.take_name(self.alloc)? {
-            return self.named_element(words, name);
+        match words.take_name(self.alloc) {
+            Ok(Some(name)) => return self.named_element(words, name),
+            Ok(None) => {}
+            Err(_) => return Err(ParseError::NoMemory),
         }
         if let Some(spot) = words.take(TokenKind::Tilde) {
-            let first = self.tilde(words, spot)?;
+            let first = match self.tilde(words, spot) {
+                Ok(first) => first,
+                Err(fault) => return Err(fault),
+            };
             return self.union_from(words, first);
         }
-        match self.other_type(words)? {
-            Some(first) => self.union_from(words, first),
-            None => Ok(None),
+        match self.other_type(words) {
+            Ok(Some(first)) => self.union_from(words, first),
+            Ok(None) => Ok(None),
+            Err(fault) => Err(fault),
         }
     }
 }

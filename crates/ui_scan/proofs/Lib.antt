@@ -8,6 +8,7 @@ pub mod LiteralLanguage
 pub mod LiteralLaws
 pub mod LiteralTokens
 pub mod LongestLaws
+pub mod LowLaws
 pub mod NumberLanguage
 pub mod NumberLaws
 pub mod OperatorLanguage
@@ -15,6 +16,7 @@ pub mod PieceLaws
 pub mod Readings
 pub mod ScanLaws
 pub mod SourceLaws
+pub mod TableLaws
 pub mod TokenLaws
 pub mod ValueLaws
 pub mod WordLanguage

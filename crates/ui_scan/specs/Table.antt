@@ -1,7 +1,8 @@
 -- How keywords and operators are spelled. Go specification, "Keywords" and "Operators and punctuation".
 use Rattle.std.specs.Prelude.{ℕ, List, [], ◌∷◌, length, Option, None, Some, if◌then◌else◌, codes, nat_eq, unwrap_or}
 use Rattle.std.specs.Str.{bytes_eq}
-use Rattle.std.specs.List.{starts_with}
+use Rattle.std.specs.List.{starts_with, zip}
+use Rattle.ui_base.specs.Names as words
 use Rattle.ui_scan.specs.declared.kind.TokenKind.{TokenKind}
 use Rattle.ui_scan.specs.declared.kind.TokenKind.TheVariants as kind
 use Rattle.ui_scan.specs.declared.kind.ScanKind.TheVariants as fault
@@ -12,34 +13,16 @@ use Rattle.ui_scan.specs.declared.piece.Piece.TheVariants as piece
 abbrev pub Entry : Type 0
 Entry = List ℕ × TokenKind
 
+-- the kinds of the keywords, in the order of these
+abbrev pub keyword_kinds : List TokenKind
+keyword_kinds =
+    kind.Break ∷ kind.Case ∷ kind.Chan ∷ kind.Const ∷ kind.Continue ∷ kind.Default ∷ kind.Defer ∷ kind.Else
+    ∷ kind.Fallthrough ∷ kind.For ∷ kind.Func ∷ kind.Go ∷ kind.Goto ∷ kind.If ∷ kind.Import ∷ kind.Interface
+    ∷ kind.Map ∷ kind.Package ∷ kind.Range ∷ kind.Return ∷ kind.Select ∷ kind.Struct ∷ kind.Switch ∷ kind.Type
+    ∷ kind.Var ∷ []
+
 unfoldable pub keywords : List Entry
-keywords =
-    (codes "break", kind.Break)
-    ∷ (codes "case", kind.Case)
-    ∷ (codes "chan", kind.Chan)
-    ∷ (codes "const", kind.Const)
-    ∷ (codes "continue", kind.Continue)
-    ∷ (codes "default", kind.Default)
-    ∷ (codes "defer", kind.Defer)
-    ∷ (codes "else", kind.Else)
-    ∷ (codes "fallthrough", kind.Fallthrough)
-    ∷ (codes "for", kind.For)
-    ∷ (codes "func", kind.Func)
-    ∷ (codes "go", kind.Go)
-    ∷ (codes "goto", kind.Goto)
-    ∷ (codes "if", kind.If)
-    ∷ (codes "import", kind.Import)
-    ∷ (codes "interface", kind.Interface)
-    ∷ (codes "map", kind.Map)
-    ∷ (codes "package", kind.Package)
-    ∷ (codes "range", kind.Range)
-    ∷ (codes "return", kind.Return)
-    ∷ (codes "select", kind.Select)
-    ∷ (codes "struct", kind.Struct)
-    ∷ (codes "switch", kind.Switch)
-    ∷ (codes "type", kind.Type)
-    ∷ (codes "var", kind.Var)
-    ∷ []
+keywords = zip words.keywords keyword_kinds
 
 -- the operators, each before those that it begins with
 unfoldable pub operators : List Entry

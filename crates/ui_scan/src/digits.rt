@@ -1,9 +1,12 @@
 //! Digits and their numbers.
 
-ghost use Rattle.std.specs.Prelude.{◌≡◌, ◌≤◌, ◌<◌, length};
+ghost use Rattle.std.specs.Prelude.{◌≡◌, ◌≤◌, ◌<◌, ◌^◌, length, IfSome};
 ghost use Rattle.ui_scan.specs.Digits as spec;
 
 const GREATEST: u128 = (1 << 127) - 1;
+
+// Below this a number can take one more digit in 64 bits.
+const SHORT: u64 = 1 << 59;
 
 /// What a digit stands for, and 16 for any other byte.
 #[tactic(auto, unfolding(crate::specs::Digits::digit))]
@@ -26,8 +29,27 @@ pub fn is_digit_of(base: u8, b: u8) -> bool
     digit(b) < base
 }
 
-/// The number that the digits stand for, unless it is past 2^127 - 1. A `_` stands for nothing.
-pub fn whole(base: u8, digits: &[u8]) -> Option<u128>
+// The number that the digits stand for, unless it may not fit 64 bits.
+fn short(base: u8, digits: &[u8]) -> Option<u64>
+    requires low { 2 ≤ base }
+    requires high { base ≤ 16 }
+    ensures number { IfSome result (λ n. n ≡ spec.number_of base digits.now) }
+    ensures small { IfSome result (λ n. n < 2 ^ 64) }
+{
+    let mut number: u64 = 0;
+    for b in digits {
+        if *b != b'_' {
+            if SHORT <= number {
+                return None;
+            }
+            number = number * u64::from(base) + u64::from(digit(*b));
+        }
+    }
+    Some(number)
+}
+
+// The number that the digits stand for, unless it is past 2^127 - 1.
+fn long(base: u8, digits: &[u8]) -> Option<u128>
     requires low { 2 ≤ base }
     requires high { base ≤ 16 }
     ensures { result ≡ spec.whole base digits.now }
@@ -43,6 +65,18 @@ pub fn whole(base: u8, digits: &[u8]) -> Option<u128>
         }
     }
     Some(number)
+}
+
+/// The number that the digits stand for, unless it is past 2^127 - 1. A `_` stands for nothing.
+pub fn whole(base: u8, digits: &[u8]) -> Option<u128>
+    requires low { 2 ≤ base }
+    requires high { base ≤ 16 }
+    ensures { result ≡ spec.whole base digits.now }
+{
+    match short(base, digits) {
+        Some(number) => Some(u128::from(number)),
+        None => long(base, digits),
+    }
 }
 
 // Whether a digit follows, or what is no `_`.

@@ -8,14 +8,14 @@ ghost use Rattle.ui_scan.specs.Escape as spec;
 use crate::digits::{is_digit_of, whole};
 
 /// What an escape stands for.
-#[derive(Clone, Copy, Debug)]
+#[derive(Clone, Copy)]
 pub enum Escaped {
     Byte(u8),
     Char(char),
 }
 
 /// What an escape stands for, and how many bytes it has.
-#[derive(Clone, Copy, Debug)]
+#[derive(Clone, Copy)]
 pub struct Escape {
     pub stands_for: Escaped,
     pub len: usize,

@@ -1,5 +1,5 @@
 /// What a token is. Each keyword and each operator has a variant of its own.
-#[derive(Clone, Copy, Debug, PartialEq, Eq, Hash)]
+#[derive(Clone, Copy, Debug, PartialEq, Eq)]
 pub enum TokenKind {
     /// An identifier that is no keyword.
     Ident,
@@ -166,8 +166,8 @@ pub enum ScanKind {
 #[derive(Clone, Copy, Debug, PartialEq, Eq)]
 pub struct Token {
     pub kind: TokenKind,
-    pub start: usize,
-    pub end: usize,
+    pub start: u32,
+    pub end: u32,
     pub line: u32,
     pub col: u32,
 }

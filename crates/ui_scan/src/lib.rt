@@ -18,6 +18,3 @@ pub use kind::{ScanFault, ScanKind, Token, TokenKind};
 pub use piece::longest_tokens;
 pub use scanner::{Scanner, TokensFault, scan_of_a_file, tokens};
 pub use value::{literals_have_values, value_of};
-
-#[cfg(test)]
-mod tests;

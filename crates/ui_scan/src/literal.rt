@@ -11,7 +11,7 @@ use crate::letters::front_char;
 use crate::piece::Piece;
 
 /// What stands behind the first quote of a literal.
-#[derive(Clone, Copy, Debug)]
+#[derive(Clone, Copy)]
 pub enum Body {
     /// The closing quote is the last of so many bytes.
     Closed { len: usize },

@@ -9,7 +9,7 @@ use crate::letters::byte_at;
 use crate::piece::Piece;
 
 /// A number's base, and the length of the prefix that tells it. A leading 0 tells it and is a digit.
-#[derive(Clone, Copy, Debug)]
+#[derive(Clone, Copy)]
 pub struct Radix {
     pub base: u8,
     pub len: usize,

@@ -11,7 +11,7 @@ use crate::number::number;
 use crate::table::{operator, word_kind};
 
 /// What the bytes begin with.
-#[derive(Clone, Copy, Debug, PartialEq, Eq)]
+#[derive(Clone, Copy)]
 pub enum Piece {
     /// White space or a comment, and whether it holds a line feed.
     Blank { len: usize, ends_line: bool },

@@ -4,9 +4,9 @@ ghost use Rattle.std.specs.Prelude.{◌≡◌, ◌≤◌, ◌<◌, ◌+◌, ◌^
 ghost use Rattle.ui_scan.specs.Scan as spec;
 
 /// An offset, and its line and column, both from 1.
-#[derive(Clone, Copy, Debug, PartialEq, Eq)]
+#[derive(Clone, Copy)]
 pub struct Place {
-    pub at: usize,
+    pub at: u32,
     pub line: u32,
     pub col: u32,
 }
@@ -21,7 +21,7 @@ pub const ORIGIN: Place = Place {
 impl Place {
     // The place behind one more byte.
     fn past(self, b: u8) -> Place
-        requires at { self.at + 1 < 2 ^ 64 }
+        requires at { self.at + 1 < 2 ^ 32 }
         requires line { self.line + 1 < 2 ^ 32 }
         requires col { self.col + 1 < 2 ^ 32 }
         ensures { result ≡ spec.past self b }
@@ -44,7 +44,7 @@ impl Place {
     /// The place behind these bytes.
     #[tactic(auto, unfolding(crate::specs::Scan::place_after))]
     pub fn after(self, bytes: &[u8]) -> Place
-        requires at { self.at + length bytes.now < 2 ^ 64 }
+        requires at { self.at + length bytes.now < 2 ^ 32 }
         requires line { self.line + length bytes.now < 2 ^ 32 }
         requires col { self.col + length bytes.now < 2 ^ 32 }
         ensures place { result ≡ spec.place_after self bytes.now }

@@ -112,7 +112,10 @@ fn found_at_end(text: &[u8], fault: Option<ScanKind>, state: State) -> Result<Fo
 {
     let State { place, due } = state;
     match (fault, due) {
-        (Some(kind), _) => Err(ScanFault { kind, at: place.at }),
+        (Some(kind), _) => Err(ScanFault {
+            kind,
+            at: place.at as usize,
+        }),
         (None, Some(end)) => Ok(Found {
             token: token_between(TokenKind::Semi, end, end),
             state: State { place, due: None },
@@ -130,10 +133,13 @@ fn open_fault(fault: Option<ScanKind>, kind: ScanKind, place: Place, bytes: &[u8
     ensures { result ≡ spec.open_fault fault kind place bytes.now }
 {
     match fault {
-        None => ScanFault { kind, at: place.at },
+        None => ScanFault {
+            kind,
+            at: place.at as usize,
+        },
         Some(other) => ScanFault {
             kind: other,
-            at: place.at + bytes.len(),
+            at: place.at as usize + bytes.len(),
         },
     }
 }
@@ -145,8 +151,8 @@ fn found_from(text: &[u8], fault: Option<ScanKind>, state: State) -> Result<Foun
     ensures within { IfOk result (λ f. IsAt text.now f.state.place) }
 {
     let mut place = state.place;
-    while place.at < text.len() {
-        let bytes = &text[place.at..];
+    while (place.at as usize) < text.len() {
+        let bytes = &text[place.at as usize..];
         match piece_at(bytes) {
             Piece::Blank { len, ends_line } => {
                 place = place.after(&bytes[..len]);
@@ -170,7 +176,7 @@ fn found_from(text: &[u8], fault: Option<ScanKind>, state: State) -> Result<Foun
             Piece::Fault { kind, at } => {
                 return Err(ScanFault {
                     kind,
-                    at: place.at + at,
+                    at: place.at as usize + at,
                 });
             }
             Piece::Open { kind } => return Err(open_fault(fault, kind, place, bytes)),
@@ -220,7 +226,7 @@ impl<'a> Scanner<'a> {
 }
 
 /// Why a file has no tokens.
-#[derive(Clone, Copy, Debug, PartialEq, Eq)]
+#[derive(Clone, Copy, Debug)]
 pub enum TokensFault {
     /// A fault stands in the place of a token.
     Scan(ScanFault),

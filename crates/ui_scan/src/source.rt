@@ -5,9 +5,10 @@ ghost use Rattle.std.specs.Str.Lossy.{utf8_valid_len};
 ghost use Rattle.ui_scan.specs.Source as spec;
 
 use crate::kind::ScanKind;
+use crate::letters::byte_at;
 
 /// The part of a file that may hold tokens.
-#[derive(Clone, Copy, Debug)]
+#[derive(Clone, Copy)]
 pub struct Source<'a> {
     /// The bytes up to the first that no source may have.
     pub text: &'a [u8],
@@ -30,13 +31,20 @@ fn valid_len(bytes: &[u8]) -> usize
     }
 }
 
+// Whether the bytes begin with U+FEFF.
+fn begins_mark(bytes: &[u8]) -> bool
+    ensures { result ≡ spec.begins_mark bytes.now }
+{
+    byte_at(bytes, 0) == MARK[0] && bytes.starts_with(&MARK)
+}
+
 // How many bytes come before the first zero byte or U+FEFF.
 fn clean_len(bytes: &[u8]) -> usize
     ensures len { result ≡ spec.clean_len bytes.now }
     ensures within { result ≤ length bytes.now }
 {
     let mut len = 0;
-    while len < bytes.len() && bytes[len] != 0 && !bytes[len..].starts_with(&MARK) {
+    while len < bytes.len() && bytes[len] != 0 && !begins_mark(&bytes[len..]) {
         len += 1;
     }
     len
@@ -48,7 +56,7 @@ fn mark_len(bytes: &[u8]) -> usize
     ensures len { result ≡ spec.mark_len bytes.now }
     ensures within { result ≤ length bytes.now }
 {
-    if bytes.starts_with(&MARK) { 3 } else { 0 }
+    if begins_mark(bytes) { 3 } else { 0 }
 }
 
 /// The part of a file that may hold tokens.

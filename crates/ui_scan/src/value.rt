@@ -107,7 +107,7 @@ pub fn value_of(alloc: Global, bytes: &[u8], token: &Token) -> Result<Value, NoM
     requires { spec.IsLiteralOf bytes.now token.now }
     ensures { IfOk result (λ v. v ≡ spec.value_in token.now.kind (spec.text_of bytes.now token.now)) }
 {
-    let text = &bytes[token.start..token.end];
+    let text = &bytes[token.start as usize..token.end as usize];
     match token.kind {
         TokenKind::Int => Ok(Value::Whole(int_value(text))),
         TokenKind::Rune => Ok(Value::Whole(i128::from(rune_value(text)))),

@@ -1,4 +1,3 @@
-pub mod StepLemmas
 pub mod PlaceLemmas
 pub mod SourceLemmas
 pub mod PathLemmas

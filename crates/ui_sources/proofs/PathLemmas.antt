@@ -7,14 +7,14 @@ use Rattle.ui_scan.specs.declared.kind.Token.{Token}
 use Rattle.ui_tree.specs.Stmt.{File, Import, Imported}
 use Rattle.ui_grammar.specs.Word.{words}
 use Rattle.ui_parse.specs.Reader.{Outcome}
-use Rattle.ui_stmts.specs.Decides.{whole_file}
+use Rattle.ui_stmts.specs.Decls.{whole_file}
 use Rattle.ui_pexpr.specs.declared.fault.ParseFault.{ParseFault}
 use Rattle.ui_pexpr.specs.Forms.{or_else}
-use Rattle.ui_types.specs.declared.check_fault.Fault.{Fault}
+use Rattle.ui_base.specs.declared.fault.Fault.{Fault}
 use Rattle.ui_pdecl.specs.FileResult.{all_specs, bad_import, bad_spec, file_result, is_bad, result_of, with_paths}
 use Rattle.ui_sources.specs.Sources.{HasValidPaths, PathsAreValid, Source, SourceTree, Trees, bytes_of, parsed, size_of, tokens_in, tree_in, trees_of}
-use Rattle.ui_sources.specs.Steps.{and_then, each}
-use Rattle.ui_sources.proofs.StepLemmas.{each_all, went}
+use Rattle.ui_base.specs.Steps.{and_then, each}
+use Rattle.ui_base.proofs.StepLemmas.{each_all, went}
 
 -- ---- a file's imports
 

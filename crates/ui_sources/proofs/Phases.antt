@@ -1,12 +1,12 @@
 -- All phases, one behind another.
 use Rattle.std.proofs.Common.{◌≡◌, ℕ, List, Result, Ok, Err, ap, ◌∙◌}
-use Rattle.ui_types.specs.declared.check_fault.CheckFault.{CheckFault}
-use Rattle.ui_types.specs.declared.check_fault.CheckFault.TheVariants as check
+use Rattle.ui_base.specs.declared.fault.CheckFault.{CheckFault}
+use Rattle.ui_base.specs.declared.fault.CheckFault.TheVariants as check
 use Rattle.ui_scan.specs.declared.kind.Token.{Token}
-use Rattle.ui_types.specs.declared.check_fault.Fault.{Fault}
+use Rattle.ui_base.specs.declared.fault.Fault.{Fault}
 use Rattle.ui_sources.specs.Choosing.{Gives}
 use Rattle.ui_sources.specs.Sources.{GivesTrees, Source, SourceTree, Trees, size_of, tokens_in, tree_in, trees_of}
-use Rattle.ui_sources.specs.Steps.{and_then, each}
+use Rattle.ui_base.specs.Steps.{and_then, each}
 
 abbrev with_size : ℕ → Result (List SourceTree) Fault → Result Trees Fault
 with_size size r = and_then (λ files. Ok (record { size = size; files = files })) r

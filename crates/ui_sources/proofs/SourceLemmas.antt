@@ -8,12 +8,12 @@ use Rattle.ui_scan.specs.Tokens.{Tokens, AreWords, with_semicolons, semicolon_be
 use Rattle.ui_scan.specs.declared.place.Place.{Place}
 use Rattle.ui_scan.specs.declared.kind.Token.{Token}
 use Rattle.ui_scan.specs.declared.kind.ScanFault.{ScanFault}
-use Rattle.ui_types.specs.declared.check_fault.Fault.{Fault}
-use Rattle.ui_types.specs.declared.check_fault.FaultKind.TheVariants as kind
+use Rattle.ui_base.specs.declared.fault.Fault.{Fault}
+use Rattle.ui_base.specs.declared.fault.FaultKind.TheVariants as kind
 use Rattle.ui_sources.specs.Choosing.{AreMeasured}
 use Rattle.ui_sources.specs.Sources.{Source, bytes_of, fault_in, front, is_long, measured, scanned, tokens_in}
-use Rattle.ui_sources.specs.Steps.{each}
-use Rattle.ui_sources.proofs.StepLemmas.{each_item, each_length}
+use Rattle.ui_base.specs.Steps.{each}
+use Rattle.ui_base.proofs.StepLemmas.{each_item, each_length}
 
 -- ---- their sizes
 

@@ -3,11 +3,11 @@ use Rattle.std.specs.Prelude.{◌≡◌, ℕ, ◌+◌, ◌==◌, List, Option, S
 use Rattle.ui_base.specs.declared.value.Spot.{Spot}
 use Rattle.ui_pexpr.specs.declared.fault.ParseFault.{ParseFault}
 use Rattle.ui_pexpr.specs.declared.fault.ParseFault.TheVariants as parse
-use Rattle.ui_types.specs.declared.check_fault.Fault.{Fault}
-use Rattle.ui_types.specs.declared.check_fault.CheckFault.{CheckFault}
-use Rattle.ui_types.specs.declared.check_fault.CheckFault.TheVariants as check
+use Rattle.ui_base.specs.declared.fault.Fault.{Fault}
+use Rattle.ui_base.specs.declared.fault.CheckFault.{CheckFault}
+use Rattle.ui_base.specs.declared.fault.CheckFault.TheVariants as check
 use Rattle.ui_sources.specs.Sources.{Source, is_large, measured, parse_fault, total}
-use Rattle.ui_sources.specs.Steps.{each}
+use Rattle.ui_base.specs.Steps.{each}
 
 -- a reading by this definition, with what is seen of the value; or want of memory
 abbrev pub Gives : {A B : Type 0} → (B → A) → Result A Fault → Result B CheckFault → Type 0

@@ -15,15 +15,15 @@ use Rattle.ui_tree.specs.declared.decl.FileTree.{FileTree}
 use Rattle.ui_tree.specs.declared.part.Specs.{Specs}
 use Rattle.ui_tree.specs.Stmt.{File}
 use Rattle.ui_tree.specs.StmtView.{file_view}
-use Rattle.ui_types.specs.declared.check_fault.Fault.{Fault}
-use Rattle.ui_types.specs.declared.check_fault.FaultKind.{FaultKind}
-use Rattle.ui_types.specs.declared.check_fault.FaultKind.TheVariants as kind
-use Rattle.ui_types.specs.declared.check_fault.CheckFault.{CheckFault}
-use Rattle.ui_types.specs.declared.check_fault.CheckFault.TheVariants as check
+use Rattle.ui_base.specs.declared.fault.Fault.{Fault}
+use Rattle.ui_base.specs.declared.fault.FaultKind.{FaultKind}
+use Rattle.ui_base.specs.declared.fault.FaultKind.TheVariants as kind
+use Rattle.ui_base.specs.declared.fault.CheckFault.{CheckFault}
+use Rattle.ui_base.specs.declared.fault.CheckFault.TheVariants as check
 use Rattle.ui_pexpr.specs.declared.fault.ParseFault.{ParseFault}
 use Rattle.ui_pexpr.specs.declared.fault.ParseFault.TheVariants as parse
 use Rattle.ui_pdecl.specs.FileResult.{all_specs, file_result}
-use Rattle.ui_sources.specs.Steps.{and_then, each}
+use Rattle.ui_base.specs.Steps.{and_then, each}
 use Rattle.ui_sources.specs.declared.source.Source.{Source as InMemory}
 use Rattle.ui_sources.specs.declared.source.Trees.{Trees as TreesInMemory}
 

@@ -6,8 +6,7 @@ ghost use Rattle.ui_sources.specs.Sources.{source_of};
 
 use crate::source::Source;
 use std::alloc::Global;
-use ui_base::{NoMemory, Pos, Spot, Text};
-use ui_types::{CheckFault, Fault, FaultKind};
+use ui_base::{CheckFault, Fault, FaultKind, NoMemory, Pos, Spot, Text};
 
 /// The first place of a source.
 pub(crate) const FRONT: Spot = Spot { line: 1, col: 1 };

@@ -12,6 +12,3 @@ mod trees;
 pub use laws::import_paths_are_valid;
 pub use source::{SOURCE_LIMIT, Source, Trees};
 pub use trees::read_trees;
-
-#[cfg(test)]
-mod tests;

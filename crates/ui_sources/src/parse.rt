@@ -4,17 +4,16 @@ ghost use Rattle.ui_scan.specs.Scan.{tokens_of};
 ghost use Rattle.ui_sources.specs.Choosing.{AreMeasured, Gives, IsParseFault};
 ghost use Rattle.ui_sources.specs.Sources as spec;
 ghost use Rattle.ui_sources.specs.Sources.{bytes_of, source_of, source_tree};
-ghost use Rattle.ui_sources.specs.Steps.{each};
+ghost use Rattle.ui_base.specs.Steps.{each};
 
 use crate::fault::fault_at;
 use crate::source::Source;
 use std::alloc::Global;
-use ui_base::Text;
+use ui_base::{CheckFault, FaultKind, Text};
 use ui_pdecl::parse_file;
 use ui_pexpr::ParseFault;
 use ui_scan::{Token, scan_of_a_file};
 use ui_tree::FileTree;
-use ui_types::{CheckFault, FaultKind};
 
 // The end of a reading with a fault of parsing in a source.
 fn parse_fault(alloc: Global, source: &Source, fault: ParseFault) -> CheckFault

@@ -3,13 +3,13 @@ ghost use Rattle.std.specs.Prelude.{◌≡◌, false, map};
 ghost use Rattle.ui_sources.specs.Choosing.{AreMeasured, Gives};
 ghost use Rattle.ui_sources.specs.Sources as spec;
 ghost use Rattle.ui_sources.specs.Sources.{source_of};
-ghost use Rattle.ui_sources.specs.Steps.{each};
+ghost use Rattle.ui_base.specs.Steps.{each};
 
 use crate::fault::fault_at;
 use crate::source::Source;
 use std::alloc::Global;
+use ui_base::{CheckFault, FaultKind};
 use ui_scan::{ScanKind, Token, TokensFault, tokens};
-use ui_types::{CheckFault, FaultKind};
 
 // The kind of a package's fault that is one of scanning.
 fn kind_of(kind: ScanKind) -> FaultKind

@@ -3,12 +3,12 @@ ghost use Rattle.std.specs.Prelude.{◌≡◌, OnOk, map};
 ghost use Rattle.ui_sources.specs.Choosing.{AreMeasured, Gives, size_within};
 ghost use Rattle.ui_sources.specs.Sources as spec;
 ghost use Rattle.ui_sources.specs.Sources.{source_of};
-ghost use Rattle.ui_sources.specs.Steps.{each};
+ghost use Rattle.ui_base.specs.Steps.{each};
 
 use crate::fault::{FRONT, fault_in};
 use crate::source::Source;
 use std::alloc::Global;
-use ui_types::{CheckFault, FaultKind};
+use ui_base::{CheckFault, FaultKind};
 
 /// The most sources of a package.
 const COUNT_LIMIT: usize = 256;

@@ -7,8 +7,7 @@ use crate::scan::scan_all;
 use crate::size::package_size;
 use crate::source::{Source, Trees};
 use std::alloc::Global;
-use ui_base::Text;
-use ui_types::CheckFault;
+use ui_base::{CheckFault, Text};
 
 /// The trees of the sources of the package of the path `own`, in the order of the sources, which stand in ascending
 /// order of name.

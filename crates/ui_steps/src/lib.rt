@@ -39,22 +39,3 @@ impl<L: Ledger> Steps<L> {
         self.book.add(&mut self.share, 1);
     }
 }
-
-#[cfg(test)]
-mod tests {
-    use super::*;
-    use std::marker::Brand;
-
-    fn counts<L: Ledger>(blank: Blank)
-        requires name { blank.name ≡ L.name }
-        requires parts { (blank.parts ≡ L.parts) × (0 < L.parts) }
-    {
-        let mut steps = Steps::<L>::new(blank);
-        steps.tick();
-    }
-
-    #[test]
-    fn a_step_is_counted() {
-        counts::<Brand>(Blank::new(1));
-    }
-}

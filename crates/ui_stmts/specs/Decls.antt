@@ -1,9 +1,9 @@
 -- Readers of declarations and files. Go specification, "Declarations and scope" and "Source file organization".
-use Rattle.std.specs.Prelude.{ℕ, zero, suc, max, Bool, true, false, List, [], ◌∷◌, ◌++◌, length, Option, Some, None, Ok, Err, nat_le, if◌then◌else◌}
+use Rattle.std.specs.Prelude.{ℕ, zero, suc, max, Bool, true, false, List, [], ◌∷◌, ◌++◌, length, Option, Some, None, nat_le, if◌then◌else◌}
 use Rattle.ui_base.specs.declared.value.Spot.{Spot}
 use Rattle.ui_base.specs.declared.value.Value.{Value}
 use Rattle.ui_base.specs.declared.value.Value.TheVariants as value
-use Rattle.ui_scan.specs.declared.kind.TokenKind.TheVariants.{LParen, RParen, LBracket, RBracket, Comma, Semi, Assign, Mul, Tilde, Const, Var, Import as AnImport, «Type» as AType, Func, Package}
+use Rattle.ui_scan.specs.declared.kind.TokenKind.TheVariants.{LParen, RParen, LBracket, RBracket, Comma, Semi, Assign, Mul, Tilde, Const, Var, Import as AnImport, «Type» as AType, Func, Package, End}
 use Rattle.ui_tree.specs.declared.part.Placed.{Placed}
 use Rattle.ui_tree.specs.declared.part.LiteralKind.{LiteralKind}
 use Rattle.ui_tree.specs.declared.part.LiteralKind.TheVariants.{Whole, Rune, Text}
@@ -13,7 +13,7 @@ use Rattle.ui_tree.specs.Stmt.{Imported, Import, TypeGroup, Recv, MaybeGroups, n
 use Rattle.ui_tree.specs.View.{groups, kept}
 use Rattle.ui_grammar.specs.Word.{Word, ident, lit, mark}
 use Rattle.ui_grammar.specs.Both.{is_length}
-use Rattle.ui_parse.specs.Reader.{Outcome, Reader, ◌>>=◌, pure, refuse, take_by, marked, named as a_name, expect, expect_name, Ending, parts, more_parts}
+use Rattle.ui_parse.specs.Reader.{Reader, ◌>>=◌, pure, refuse, take_by, marked, named as a_name, expect, expect_name, Ending, parts, more_parts, rest_of}
 use Rattle.ui_syntax.specs.declared.site.TypeSite.TheVariants as at
 use Rattle.ui_syntax.specs.Cover.{Read}
 use Rattle.ui_syntax.specs.Types.{or_refuse, group, is_empty, params, results, bracket_type, plain_type, union_from, tilde_of, maybe_union}
@@ -22,10 +22,6 @@ use Rattle.ui_stmts.specs.Common.{Sized, sized, names, specs, constant_decl, var
 use Rattle.ui_stmts.specs.Stmts.{stmt_readers, a_body}
 
 -- ---- two readings side by side: what goes farther counts, and the first where both go as far
-
-abbrev pub rest_of : {A : Type 0} → Outcome A → List Word
-rest_of (Ok p) = p.1
-rest_of (Err ws) = ws
 
 unfoldable pub farther : {A : Type 0} → Reader A → Reader A → Reader A
 farther p q = λ ws. if nat_le (length (rest_of (p ws))) (length (rest_of (q ws))) then p ws else q ws
@@ -198,3 +194,7 @@ module _ (room : ℕ) where
   -- "package" name ";" { Import ";" } { Decl ";" }
   unfoldable pub file : Reader File
   file = expect Package >>= (λ s. expect_name >>= (λ p. expect Semi >>= (λ _. each maybe_import >>= (λ is. each decl_part >>= (λ ds. pure (record { spot = s; package_name = p; imports = is; decls = ds }))))))
+
+-- the file, behind which the end of the text alone stands
+abbrev pub whole_file : ℕ → Reader File
+whole_file room = file room >>= (λ f. expect End >>= (λ _. pure f))

@@ -1,17 +1,24 @@
--- What readers of statements of a budget read, and that they read it: laws that each budget has from the one below it.
-use Rattle.std.specs.Prelude.{◌≡◌, ◌⊎◌, ℕ, ◌≤◌, true, false, List, ◌∷◌, Ok, Err}
-use Rattle.ui_base.specs.declared.value.Spot.{Spot}
-use Rattle.ui_scan.specs.declared.kind.TokenKind.TheVariants.{LBrace, RBrace, Semi, If}
+-- The readers of statements and files of each budget read exactly the forms of the grammar.
+use Rattle.std.specs.Prelude.{◌≡◌, ◌⊎◌, ℕ, suc, ◌≤◌, false, List, ◌++◌, Ok, Err}
+use Rattle.ui_scan.specs.declared.kind.TokenKind.TheVariants.{RBrace, RBracket, Semi}
+use Rattle.ui_tree.specs.Tree.{Tree, Groups}
 use Rattle.ui_tree.specs.Stmt.{Stmt}
-use Rattle.ui_grammar.specs.Word.{Word, mark, Mark}
-use Rattle.ui_grammar.specs.Fits.{plain}
-use Rattle.ui_grammar.specs.Statement.{SpellsStmt, FitsStmt, stmt_depth, is_empty, is_alternative}
-use Rattle.ui_parse.specs.Reader.{Outcome}
-use Rattle.ui_parse.specs.Outcomes.{Holds}
-use Rattle.ui_parse.specs.Steady.{Steady}
-use Rattle.ui_syntax.specs.Laws.{Stops}
+use Rattle.ui_grammar.specs.Word.{Word, Mark}
+use Rattle.ui_grammar.specs.Both.{is_length}
+use Rattle.ui_grammar.specs.Spells.{Spells}
+use Rattle.ui_grammar.specs.Fits.{plain, Fits}
+use Rattle.ui_grammar.specs.Statement.{SpellsStmt, FitsStmt, stmt_depth, is_empty}
+use Rattle.ui_grammar.specs.Declaration.{SpellsTypeParams, FitsTypeParams}
+use Rattle.ui_grammar.specs.Parse.{HasFile}
+use Rattle.ui_parse.specs.Exact.{ReadsExactly}
 use Rattle.ui_stmts.specs.Common.{Sized}
-use Rattle.ui_stmts.specs.Stmts.{NestedStmt}
+use Rattle.ui_stmts.specs.Stmts.{stmt_readers}
+use Rattle.ui_stmts.specs.Decls.{whole_file}
+
+abbrev pub ReadsFiles : Type 0
+ReadsFiles = (room : ℕ) → ReadsExactly (HasFile (suc room)) (whole_file room) (λ f. f)
+
+-- ---- statements
 
 -- a statement with words, within a budget
 pub record FitsBudget (b : ℕ) (t : Stmt) : Type 0 where
@@ -19,58 +26,27 @@ pub record FitsBudget (b : ℕ) (t : Stmt) : Type 0 where
   pub words : is_empty t ≡ false
   pub shallow : stmt_depth t ≤ b
 
--- The form of a statement, behind words that were read before it.
-pub record StmtForm (before : List Word → List Word) (P : Stmt → Type 0) (b : ℕ) (ts rest : List Word) : Type 0 where
-  pub tree : Stmt
-  pub spells : SpellsStmt tree (before ts) rest
-  pub fits : FitsBudget b tree
-  pub also : P tree
-
-pub record IsStmtRead (before : List Word → List Word) (P : Stmt → Type 0) (b : ℕ) (ts : List Word) (x : Sized Stmt) (rest : List Word) : Type 0 where
-  pub spells : SpellsStmt x.of (before ts) rest
-  pub fits : FitsBudget b x.of
-  pub also : P x.of
-  pub sized : stmt_depth x.of ≡ x.depth
-
-abbrev pub whole : List Word → List Word
-whole ts = ts
-
-abbrev pub behind_if : Spot → List Word → List Word
-behind_if s ts = mark If s ∷ ts
-
-abbrev pub behind_brace : Spot → List Word → List Word
-behind_brace s ts = mark LBrace s ∷ ts
-
-abbrev pub any : Stmt → Type 0
-any t = Unit {0}
-
-abbrev pub alternative : Stmt → Type 0
-alternative t = is_alternative t ≡ true
-
--- An `if` has the depth 2 at least, and no reader comes to one with less.
-pub record AreStmtsSound (b : ℕ) (n : NestedStmt) : Type 0 where
-  pub stmt : (ts : List Word) → Holds (IsStmtRead whole any b ts) (Stops (StmtForm whole any b) ts) (n.stmt ts)
-  pub branch : 2 ≤ b → (s : Spot) (ts : List Word) → Holds (IsStmtRead (behind_if s) alternative b ts) (Stops (StmtForm (behind_if s) alternative b) ts) (n.branch s ts)
-  pub block : (s : Spot) (ts : List Word) → Holds (IsStmtRead (behind_brace s) alternative b ts) (Stops (StmtForm (behind_brace s) alternative b) ts) (n.block s ts)
-
 -- what follows a statement: a semicolon or a closing brace
 abbrev pub EndsAStmt : List Word → Type 0
 EndsAStmt ts = ((a : List Word) × Mark Semi ts a) ⊎ ((a : List Word) × Mark RBrace ts a)
 
-pub record StmtReadsTo (o : Outcome (Sized Stmt)) (t : Stmt) (rest : List Word) : Type 0 where
-  pub read : Sized Stmt
-  pub is : o ≡ Ok (read, rest)
-  pub tree : read.of ≡ t
-  pub depth : read.depth ≡ stmt_depth t
+-- what was taken begins a statement, whatever is left
+pub record BeginsStmt (budget : ℕ) (ts rest : List Word) : Type 0 where
+  pub front : List Word
+  pub parts : ts ≡ front ++ rest
+  pub more : List Word
+  pub goes_on : (k : List Word) → (t : Stmt) × SpellsStmt t (front ++ (more ++ k)) k × FitsBudget budget t
 
-pub record AreStmtsComplete (b : ℕ) (n : NestedStmt) : Type 0 where
-  pub stmt : (ts rest : List Word) (t : Stmt) → SpellsStmt t ts rest → FitsBudget b t → EndsAStmt rest → StmtReadsTo (n.stmt ts) t rest
-  pub branch : (s : Spot) (ts rest : List Word) (t : Stmt) → SpellsStmt t (mark If s ∷ ts) rest → FitsBudget b t → is_alternative t ≡ true → EndsAStmt rest → StmtReadsTo (n.branch s ts) t rest
-  pub block : (s : Spot) (ts rest : List Word) (t : Stmt) → SpellsStmt t (mark LBrace s ∷ ts) rest → FitsBudget b t → is_alternative t ≡ true → EndsAStmt rest → StmtReadsTo (n.block s ts) t rest
-  -- No statement begins with these, and nothing is taken.
-  pub no_stmt : (ts : List Word) → EndsAStmt ts → n.stmt ts ≡ Err ts
+pub record ReadsStmt (budget : ℕ) : Type 0 where
+  pub found : (ts : List Word) (x : Sized Stmt) (rest : List Word) → (stmt_readers budget).stmt ts ≡ Ok (x, rest) → SpellsStmt x.of ts rest × FitsBudget budget x.of × (stmt_depth x.of ≡ x.depth)
+  -- A fault stands where nothing was taken, or behind words with which a statement begins.
+  pub fault : (ts rest : List Word) → (stmt_readers budget).stmt ts ≡ Err rest → (ts ≡ rest) ⊎ BeginsStmt budget ts rest
+  pub every : (ts rest : List Word) (t : Stmt) → SpellsStmt t ts rest → FitsBudget budget t → EndsAStmt rest → (x : Sized Stmt) × ((stmt_readers budget).stmt ts ≡ Ok (x, rest)) × (x.of ≡ t)
 
-pub record AreStmtsSteady (n : NestedStmt) : Type 0 where
-  pub stmt : Steady n.stmt
-  pub branch : (s : Spot) → Steady (n.branch s)
-  pub block : (s : Spot) → Steady (n.block s)
+abbrev pub ReadsStmts : Type 0
+ReadsStmts = (budget : ℕ) → ReadsStmt budget
+
+-- ---- behind `type N [`: no text up to the bracket is a length and type parameters at once
+
+abbrev pub NoBoth : Type 0
+NoBoth = (e : Tree) (gs : Groups) (ts m c d : List Word) → Spells e ts m → Mark RBracket m c → Fits e plain → SpellsTypeParams (is_length gs) gs ts d → FitsTypeParams gs → ⊥

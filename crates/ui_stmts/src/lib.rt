@@ -1,2 +1,6 @@
-//! Readers of statements, declarations and files as definitions, with their laws.
+//! Readers of statements, declarations and files as definitions, with the laws that they read exactly the forms of the grammar.
 #![tactic(auto)]
+
+mod laws;
+
+pub use laws::{no_length_and_parameters, reads_files_exactly, reads_statements};

@@ -22,6 +22,3 @@ pub use source::Source;
 pub use store::{AskKind, Asked, Given, Heard, Store};
 pub use streams::{InSource, OutSink};
 pub use ui_base::NoMemory;
-
-#[cfg(test)]
-mod tests;

@@ -28,6 +28,3 @@ pub use out::ElementOut;
 pub use pkg::PkgEl;
 pub use posbase::PosBaseEl;
 pub use shape::Shape;
-
-#[cfg(test)]
-mod tests;

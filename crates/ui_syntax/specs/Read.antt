@@ -2,6 +2,7 @@
 use Rattle.std.specs.Prelude.{ℕ, zero, suc, Bool, true, false, None}
 use Rattle.ui_tree.specs.Tree.{TypeTree, Tree}
 use Rattle.ui_scan.specs.declared.kind.TokenKind.TheVariants.{LParen}
+use Rattle.ui_grammar.specs.Fits.{Place, in_header, plain}
 use Rattle.ui_parse.specs.Reader.{Reader, ◌>>=◌, pure, refuse, expect}
 use Rattle.ui_syntax.specs.declared.site.Site.{Site}
 use Rattle.ui_syntax.specs.declared.site.Site.TheVariants as site
@@ -36,6 +37,13 @@ readers (suc d) = next d (readers d)
 abbrev pub place_of : Bool → Site
 place_of true = site.Header
 place_of false = site.Plain
+
+-- what fits there
+abbrev pub place_at : Site → Place
+place_at site.Header = in_header
+place_at site.Plain = plain
+place_at site.Wrapped = plain
+place_at site.Argument = plain
 
 -- an expression within the budget
 abbrev pub expr : ℕ → Bool → Reader (Read Tree)

@@ -1,8 +1,8 @@
 -- The words for the kinds of a package's faults, as they are printed: the names of the kinds. This project's own.
 use Rattle.std.specs.Prelude.{codes}
 use Rattle.ui_build.specs.Plan.{Text}
-use Rattle.ui_types.specs.declared.check_fault.FaultKind.{FaultKind}
-use Rattle.ui_types.specs.declared.check_fault.FaultKind.TheVariants as kind
+use Rattle.ui_base.specs.declared.fault.FaultKind.{FaultKind}
+use Rattle.ui_base.specs.declared.fault.FaultKind.TheVariants as kind
 
 abbrev pub kind_text : FaultKind → Text
 kind_text kind.SourceTooLong = codes "SourceTooLong"

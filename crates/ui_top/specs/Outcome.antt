@@ -8,7 +8,7 @@ use Rattle.ui_store.specs.Files.{Files}
 use Rattle.ui_store.specs.Calls.{Ask}
 use Rattle.ui_frame.specs.declared.frame.FrameFault.{FrameFault}
 use Rattle.ui_frame.specs.declared.frame.FrameFault.TheVariants as frame
-use Rattle.ui_types.specs.declared.check_fault.Fault.{Fault}
+use Rattle.ui_base.specs.declared.fault.Fault.{Fault}
 use Rattle.ui_base.specs.declared.value.Pos.{Pos}
 use Rattle.ui_exports.specs.Export.{Export}
 use Rattle.ui_build.specs.Plan.{Text, Refusal, NoFile, Faulty, Form, TooLong, BadFrame, BadElement, TooMany, Cycle, Stale, Put, Plan}

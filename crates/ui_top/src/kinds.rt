@@ -2,7 +2,7 @@
 ghost use Rattle.std.specs.Prelude.{◌≡◌};
 ghost use Rattle.ui_top.specs.Kinds.{kind_text};
 
-use ui_types::FaultKind;
+use ui_base::FaultKind;
 
 /// The word for a kind: its name.
 pub fn kind_text(kind: FaultKind) -> &'static str

@@ -9,14 +9,3 @@ mod status;
 
 pub use commands::run;
 pub use status::Status;
-
-#[cfg(test)]
-mod dump_tests;
-#[cfg(test)]
-mod forged_tests;
-#[cfg(test)]
-mod layout_tests;
-#[cfg(test)]
-mod several_tests;
-#[cfg(test)]
-mod tests;

@@ -3,3 +3,4 @@ pub mod View
 pub mod Stmt
 pub mod StmtView
 pub mod Views
+pub mod Spots

@@ -4,14 +4,14 @@ use sqlite_items::Items;
 use ui_base::{Spot, Text};
 
 /// A name or the value of a string, with the place that it stands at.
-#[derive(Debug, Drop)]
+#[derive(Drop)]
 pub struct Placed {
     pub spot: Spot,
     pub text: Text,
 }
 
 /// A unary operator. Go specification, "Operators".
-#[derive(Clone, Copy, Debug, PartialEq, Eq)]
+#[derive(Clone, Copy, PartialEq, Eq)]
 pub enum PrefixOp {
     /// `+`
     Plus,

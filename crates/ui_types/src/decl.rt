@@ -6,7 +6,7 @@ use std::alloc::Global;
 use ui_base::{Items, Name, NoMemory, Pos, Text, Value};
 
 /// A type parameter with its constraint.
-#[derive(Debug, Drop)]
+#[derive(Drop)]
 pub struct TParam {
     pub name: Text,
     pub bound: TypeId,
@@ -36,7 +36,7 @@ impl Part for TParam {
 
 /// A method of a defined type: whether its receiver is a pointer, and its signature without the receiver. The name has
 /// the empty path exactly where it is exported.
-#[derive(Debug, Drop)]
+#[derive(Drop)]
 pub struct MethodFace {
     pub name: Name,
     pub pos: Pos,
@@ -73,7 +73,7 @@ impl Part for MethodFace {
 }
 
 /// What a name is declared as.
-#[derive(Debug, Drop)]
+#[derive(Drop)]
 pub enum Face {
     /// Another name of a type.
     Alias {
@@ -99,7 +99,7 @@ pub enum Face {
 }
 
 /// A declaration, and where its name stands.
-#[derive(Debug, Drop)]
+#[derive(Drop)]
 pub struct Decl {
     pub pos: Pos,
     pub face: Face,

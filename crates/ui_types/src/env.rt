@@ -1,4 +1,4 @@
-ghost use Rattle.std.specs.Prelude.{◌≡◌, [], ◌∷◌, IfOk, IfSome, codes, option_map};
+ghost use Rattle.std.specs.Prelude.{◌≡◌, ℕ, List, [], ◌∷◌, IfOk, IfSome, codes, option_map};
 ghost use Rattle.ui_types.specs.Table.{Table, IsId, AreIds, Grows, Denotes, Makes, tree, trees};
 ghost use Rattle.ui_types.specs.Decls.{Packages, DeclTrees, find_package, find_decl, IsDecl, IsAnswer, shown_decl, error_name, error_type, name_eq, under, under_name, under_decl};
 ghost use Rattle.ui_types.specs.Kept.{Kept, KeptEverywhere};
@@ -18,6 +18,9 @@ pub trait Env {
     /// The map from paths to package names.
     ghost packages: { Self → Packages };
 
+    /// The ghost names of the references that it holds, which no call changes.
+    ghost lent: { Self → List ℕ };
+
     /// The map from names to declarations, with the trees that the ids kept have in the table.
     ghost decls: { Self → Table → DeclTrees };
 
@@ -27,7 +30,7 @@ pub trait Env {
     /// The name of the package with this path.
     fn package(&mut self, alloc: Global, path: &Text) -> Result<Option<Text>, NoMemory>
         ensures answer { IfOk result (λ found. found ≡ find_package (packages self.old) path.now) }
-        ensures kept { KeptEverywhere packages decls fits self.old self.new };
+        ensures kept { KeptEverywhere packages lent decls fits self.old self.new };
 
     /// The declaration of the name, with ids of the table.
     fn decl(
@@ -38,7 +41,7 @@ pub trait Env {
     ) -> Result<Option<Decl>, NoMemory>
         requires { fits self.old table.old }
         ensures answer { IfOk result (IsAnswer table.new (find_decl (decls self.old table.old) name.now)) }
-        ensures kept { Kept packages decls fits self.old table.old self.new table.new };
+        ensures kept { Kept packages lent decls fits self.old table.old self.new table.new };
 
     /// A table that grows changes nothing.
     ghost stays: { (s : Self) (t u : Table) → Grows t u → fits s t → fits s u × (decls s u ≡ decls s t) };
@@ -82,6 +85,17 @@ fn error_interface(alloc: Global, table: &mut TypeTable) -> Result<TypeId, NoMem
         unions,
     };
     intern_within(alloc, table, interface)
+}
+
+// The same, as the outcome of a call that makes it.
+fn error_made(alloc: Global, table: &mut TypeTable) -> Result<TypeId, TypeFault>
+    ensures made { Makes table.new error_type result }
+    ensures grows { Grows table.old table.new }
+{
+    match error_interface(alloc, table) {
+        Ok(id) => Ok(id),
+        Err(_) => Err(TypeFault::NoMemory),
+    }
 }
 
 // Whether it is the name of the predeclared type `error`.
@@ -131,13 +145,15 @@ fn under_named<E: Env>(
     requires env { E.fits env.old table.old }
     requires arguments { AreIds table.old args.now }
     ensures made { Makes table.new (under_name (E.decls env.old table.old) name.now (trees table.old args.now)) result }
-    ensures kept { Kept E.packages E.decls E.fits env.old table.old env.new table.new }
+    ensures kept { Kept E.packages E.lent E.decls E.fits env.old table.old env.new table.new }
 {
     if is_error(name) {
-        return Ok(error_interface(alloc, table)?);
+        return error_made(alloc, table);
     }
-    let found = env.decl(alloc, table, name)?;
-    under_found(alloc, table, &found, args)
+    match env.decl(alloc, table, name) {
+        Ok(found) => under_found(alloc, table, &found, args),
+        Err(_) => Err(TypeFault::NoMemory),
+    }
 }
 
 /// The underlying type in this environment. It is refused exactly where that type's tree is past a limit, which only
@@ -152,7 +168,7 @@ pub fn underlying<E: Env>(
     requires env { E.fits env.old table.old }
     requires id { IsId table.old t }
     ensures made { Makes table.new (under (E.decls env.old table.old) (tree table.old t)) result }
-    ensures kept { Kept E.packages E.decls E.fits env.old table.old env.new table.new }
+    ensures kept { Kept E.packages E.lent E.decls E.fits env.old table.old env.new table.new }
 {
     if let TypeNode::Named { name, args } = table.node(t) {
         let name = name.copy(alloc)?;

@@ -7,7 +7,7 @@ pub const MAX_SIZE: u64 = 65536;
 pub const MAX_DEPTH: u32 = 256;
 
 /// How large a type's tree is: how many nodes it has, and how many its longest path has.
-#[derive(Clone, Copy, Debug)]
+#[derive(Clone, Copy)]
 pub struct Extent {
     pub size: u64,
     pub depth: u32,

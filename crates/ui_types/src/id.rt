@@ -1,7 +1,7 @@
 use ui_base::Items;
 
 /// A type of a `TypeTable`, by its place.
-#[derive(Clone, Copy, Debug, PartialEq, Eq, Hash)]
+#[derive(Clone, Copy, PartialEq, Eq, Hash)]
 pub struct TypeId(pub usize);
 
 /// A list of types.

@@ -1,7 +1,6 @@
 //! Types as numbered nodes, which contracts see as plain trees, and environments of declarations.
 #![tactic(auto)]
 
-mod check_fault;
 mod decl;
 mod entries;
 mod env;
@@ -15,7 +14,6 @@ mod part;
 mod substitute;
 mod table;
 
-pub use check_fault::{CheckFault, Fault, FaultKind};
 pub use decl::{Decl, Decls, Face, MethodFace, MethodFaces, TParam, TParams};
 pub use env::{Env, underlying};
 pub use extent::{Extent, MAX_DEPTH, MAX_SIZE};
@@ -26,12 +24,9 @@ pub use node::TypeNode;
 pub use part::{
     Field, Fields, Method, Methods, Part, Term, Terms, copy_parts, parts_with, types_of,
 };
+pub use substitute::intern_within;
 pub use table::TypeTable;
 pub use ui_base::{
-    Basic, BinOp, Items, Name, Names, NoMemory, Pos, Spot, Text, Texts, UnOp, Value, is_exported,
-    is_name, is_path,
+    Basic, BinOp, CheckFault, Fault, FaultKind, Items, Name, Names, NoMemory, Pos, Spot, Text,
+    Texts, UnOp, Value, is_exported, is_name, is_path,
 };
-
-#[cfg(test)]
-#[tactic(auto, using(crate::specs::Trees::growth))]
-mod tests;

@@ -1,4 +1,4 @@
-ghost use Rattle.std.specs.Prelude.{◌≡◌, IfOk, IfSome, option_map, List};
+ghost use Rattle.std.specs.Prelude.{◌≡◌, [], IfOk, IfSome, option_map, List};
 ghost use Rattle.ui_types.specs.Table.{Table};
 ghost use Rattle.ui_types.specs.Decls.{find_package, find_decl, shown_decls, shown_decl, AreDecls, IsDecl, IsAnswer};
 ghost use Rattle.ui_types.specs.Stays.{decls_stay};
@@ -10,7 +10,7 @@ use std::alloc::Global;
 use ui_base::{Name, NoMemory, Text};
 
 /// Package names and declarations in memory, whose ids are of one table.
-#[derive(Debug, Drop)]
+#[derive(Drop)]
 pub struct ListEnv {
     pub packages: Vec<(Text, Text)>,
     pub decls: Decls,
@@ -53,6 +53,8 @@ fn find<'a>(decls: &'a [(Name, Decl)], name: &Name) -> Option<&'a Decl>
 
 impl Env for ListEnv {
     ghost packages = { λ s. s.packages.items };
+
+    ghost lent = { λ s. [] };
 
     ghost decls = { λ s t. shown_decls t s.decls };
 

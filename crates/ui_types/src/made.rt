@@ -7,7 +7,7 @@ use std::collections::HashMap;
 use ui_base::NoMemory;
 
 /// What a type has become: its extent, and its id where it is within the limits.
-#[derive(Clone, Copy, Debug)]
+#[derive(Clone, Copy)]
 pub struct Made {
     pub extent: Extent,
     pub id: Option<TypeId>,
@@ -15,7 +15,7 @@ pub struct Made {
 
 /// What the parts of a type have become: the sum of their sizes, the depth of the deepest, and their ids, all of them
 /// where they are within the limits together.
-#[derive(Debug, Drop)]
+#[derive(Drop)]
 pub struct MadeParts {
     pub extent: Extent,
     pub ids: Vec<TypeId>,

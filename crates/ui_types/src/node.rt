@@ -1,13 +1,15 @@
 ghost use Rattle.std.specs.Prelude.{◌≡◌, ◌++◌, List, IfOk, length, map};
 ghost use Rattle.ui_types.specs.Nodes.{ids_of, node_with};
+ghost use Rattle.ui_types.specs.Parts.{with_types};
+ghost use Rattle.ui_types.specs.declared.node.TypeNode.TheVariants as node;
 
 use crate::id::{Ids, TypeId};
-use crate::part::{Fields, Methods, Part, Terms, parts_with, push_types, types_of};
+use crate::part::{Fields, Method, Methods, Part, Terms, parts_with, push_types, types_of};
 use std::alloc::Global;
 use ui_base::{Basic, Name, NoMemory};
 
 /// One node of a type, with ids for its parts. Go specification, "Types".
-#[derive(Debug, Drop, PartialEq, Eq, Hash)]
+#[derive(Drop, PartialEq, Eq, Hash)]
 pub enum TypeNode {
     Basic(Basic),
     /// A declared type with its type arguments.
@@ -61,6 +63,44 @@ fn ids_from(alloc: Global, ids: &[TypeId]) -> Result<Ids, NoMemory>
     Ok(Ids::new(Vec::from_slice(alloc, ids)?))
 }
 
+// A declared type with these arguments.
+fn named_with(alloc: Global, name: &Name, args: &[TypeId]) -> Result<TypeNode, NoMemory>
+    ensures { IfOk result (λ n. n ≡ node.Named name.now args.now) }
+{
+    let args = ids_from(alloc, args)?;
+    let name = name.copy(alloc)?;
+    Ok(TypeNode::Named { name, args })
+}
+
+// The type of functions with these parameters and results.
+fn func_with(alloc: Global, params: &[TypeId], results: &[TypeId]) -> Result<TypeNode, NoMemory>
+    ensures { IfOk result (λ n. n ≡ node.Func params.now results.now) }
+{
+    let params = ids_from(alloc, params)?;
+    let results = ids_from(alloc, results)?;
+    Ok(TypeNode::Func { params, results })
+}
+
+// An interface with these methods, whose signatures are these, and these unions.
+fn iface_with(
+    alloc: Global,
+    methods: &[Method],
+    sigs: &[TypeId],
+    comparable: bool,
+    unions: &[TypeId],
+) -> Result<TypeNode, NoMemory>
+    requires { length sigs.now ≡ length methods.now }
+    ensures { IfOk result (λ n. n ≡ node.Iface (with_types (λ m t. record m { sig = t }) methods.now sigs.now) comparable unions.now) }
+{
+    let unions = ids_from(alloc, unions)?;
+    let methods = parts_with(alloc, methods, sigs)?;
+    Ok(TypeNode::Iface {
+        methods,
+        comparable,
+        unions,
+    })
+}
+
 #[tactic(auto, using(crate::proofs::PartLemmas::part_steps))]
 impl TypeNode {
     /// The ids that the node holds, in their order.
@@ -93,11 +133,7 @@ impl TypeNode {
     {
         match self {
             TypeNode::Basic(kind) => Ok(TypeNode::Basic(*kind)),
-            TypeNode::Named { name, args: _ } => {
-                let name = name.copy(alloc)?;
-                let args = ids_from(alloc, ids)?;
-                Ok(TypeNode::Named { name, args })
-            }
+            TypeNode::Named { name, args: _ } => named_with(alloc, name, ids),
             TypeNode::Pointer(_) => Ok(TypeNode::Pointer(ids[0])),
             TypeNode::Slice(_) => Ok(TypeNode::Slice(ids[0])),
             TypeNode::Array { len, elem: _ } => Ok(TypeNode::Array {
@@ -110,9 +146,7 @@ impl TypeNode {
             }),
             TypeNode::Func { params, results: _ } => {
                 let (params, results) = ids.split_at(params.items().len());
-                let params = ids_from(alloc, params)?;
-                let results = ids_from(alloc, results)?;
-                Ok(TypeNode::Func { params, results })
+                func_with(alloc, params, results)
             }
             TypeNode::Struct(fields) => {
                 Ok(TypeNode::Struct(parts_with(alloc, fields.items(), ids)?))
@@ -123,13 +157,7 @@ impl TypeNode {
                 unions: _,
             } => {
                 let (sigs, unions) = ids.split_at(methods.items().len());
-                let methods = parts_with(alloc, methods.items(), sigs)?;
-                let unions = ids_from(alloc, unions)?;
-                Ok(TypeNode::Iface {
-                    methods,
-                    comparable: *comparable,
-                    unions,
-                })
+                iface_with(alloc, methods.items(), sigs, *comparable, unions)
             }
             TypeNode::Union(terms) => Ok(TypeNode::Union(parts_with(alloc, terms.items(), ids)?)),
             TypeNode::Param(k) => Ok(TypeNode::Param(*k)),

@@ -42,7 +42,7 @@ impl Part for TypeId {
 }
 
 /// A field of a struct. The name has the empty path exactly where it is exported.
-#[derive(Debug, Drop, PartialEq, Eq, Hash)]
+#[derive(Drop, PartialEq, Eq, Hash)]
 pub struct Field {
     pub name: Name,
     pub ty: TypeId,
@@ -71,7 +71,7 @@ impl Part for Field {
 }
 
 /// A method of an interface, with its signature. The name has the empty path exactly where it is exported.
-#[derive(Debug, Drop, PartialEq, Eq, Hash)]
+#[derive(Drop, PartialEq, Eq, Hash)]
 pub struct Method {
     pub name: Name,
     pub sig: TypeId,
@@ -100,7 +100,7 @@ impl Part for Method {
 }
 
 /// A term of a union, with or without a `~`.
-#[derive(Clone, Copy, Debug, PartialEq, Eq, Hash)]
+#[derive(Clone, Copy, PartialEq, Eq, Hash)]
 pub struct Term {
     pub tilde: bool,
     pub ty: TypeId,

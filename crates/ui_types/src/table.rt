@@ -1,9 +1,11 @@
-ghost use Rattle.std.specs.Prelude.{◌≡◌, ◌<◌, ◌≤◌, ◌↔◌, [], IsTrue};
+ghost use Rattle.std.specs.Prelude.{◌≡◌, ◌<◌, ◌≤◌, ◌↔◌, [], IsTrue, MatchResult};
+ghost use Rattle.ui_types.specs.declared.id.TypeId.{TypeId};
 ghost use Rattle.ui_types.specs.Ty.{size, depth, subst};
-ghost use Rattle.ui_types.specs.Table.{IsId, AreIds, IsNode, Grows, IsWithinLimits, Makes, shown, tree, trees};
+ghost use Rattle.ui_types.specs.Table.{IsId, AreIds, IsNode, Grows, IsWithinLimits, IsFaultOf, Makes, shown, tree, trees};
+ghost use Rattle.ui_types.specs.Entries.{IsTable, IsEntryOf, trees_of};
 
 use crate::entries::{Entries, add, entry_of, extent_of, find};
-use crate::extent::{MAX_DEPTH, MAX_SIZE};
+use crate::extent::{Extent, MAX_DEPTH, MAX_SIZE};
 use crate::fault::TypeFault;
 use crate::id::TypeId;
 use crate::made::Memo;
@@ -15,7 +17,7 @@ use std::marker::Model;
 
 /// Types as numbered nodes, each once. Contracts see a table as the list of its trees, in which an id is a place. Each
 /// tree has at most 65,536 nodes and a depth of at most 256.
-#[derive(Debug, Drop)]
+#[derive(Drop)]
 pub struct TypeTable {
     entries: Entries,
 }
@@ -35,6 +37,28 @@ impl Model for TypeTable {
     ghost view = { λ a. trees_of a.entries.entries };
 
     ghost invariant = { λ a. IsTable a.entries.entries };
+}
+
+// The extent of the node's tree, which is refused where it is past a limit.
+fn extent_within(alloc: Global, entries: &Entries, node: &TypeNode) -> Result<Extent, TypeFault>
+    requires table { IsTable entries.now.entries }
+    requires valid { IsNode (trees_of entries.now.entries) node.now }
+    ensures { MatchResult result (λ e. IsEntryOf (trees_of entries.now.entries) (node.now, e))
+        (IsFaultOf (shown (trees_of entries.now.entries) node.now)) }
+{
+    let extent = match extent_of(alloc, entries, node) {
+        Ok(extent) => extent,
+        Err(_) => return Err(TypeFault::NoMemory),
+    };
+    if extent.size > MAX_SIZE {
+        return Err(TypeFault::TooBig { size: extent.size });
+    }
+    if extent.depth > MAX_DEPTH {
+        return Err(TypeFault::TooDeep {
+            depth: extent.depth,
+        });
+    }
+    Ok(extent)
 }
 
 #[tactic(auto, using(crate::proofs::TableLemmas::entries))]
@@ -88,6 +112,13 @@ impl TypeTable {
         a == b
     }
 
+    /// Equal trees have equal ids.
+    pub fn once(&self)
+        ensures { (a b : TypeId) → IsId self.now a → IsId self.now b → tree self.now a ≡ tree self.now b → a ≡ b }
+    {
+        let _ = &self.entries;
+    }
+
     /// The id of the node's type, which is added where the table lacks it. It is refused exactly where its tree has
     /// more than 65,536 nodes, else where its depth is past 256.
     pub fn intern(&mut self, alloc: Global, node: TypeNode) -> Result<TypeId, TypeFault>
@@ -98,19 +129,15 @@ impl TypeTable {
         if let Some(k) = find(&self.entries, &node) {
             return Ok(TypeId(k));
         }
-        let extent = extent_of(alloc, &self.entries, &node)?;
-        if extent.size > MAX_SIZE {
-            return Err(TypeFault::TooBig { size: extent.size });
-        }
-        if extent.depth > MAX_DEPTH {
-            return Err(TypeFault::TooDeep {
-                depth: extent.depth,
-            });
-        }
+        let extent = match extent_within(alloc, &self.entries, &node) {
+            Ok(extent) => extent,
+            Err(fault) => return Err(fault),
+        };
         let k = self.entries.len();
         add(&mut self.entries, node, extent)?;
         Ok(TypeId(k))
     }
+
     /// The type with the arguments in the places of its type parameters; one without an argument stays. It is refused
     /// exactly where the resulting tree has more than 65,536 nodes, else where its depth is past 256. Each type that
     /// `t` is made of is done once, however often it occurs.

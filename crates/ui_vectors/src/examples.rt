@@ -1,107 +1,107 @@
-// The worked examples.
-use crate::scene::{case, run_failing, run_words, store_of};
+//! The worked examples.
+
+use crate::scene::{Row, SEVEN, SEVEN_FILE, USAGE, expect, run_with, run_words, store_of};
 use std::test::Fail;
 use ui_store::{AskKind, MemStore};
 use ui_top::Status;
 
-const USAGE: &str =
-    "usage: goui build PATH [QUERY]... | compile PATH | link PATH | dump PATH [QUERY]... | ask PATH | frame NAME | gen N\n";
-
-// A package of one constant.
-const SEVEN: (&str, &str) = ("src/a/a.go", "package a\n\nconst N = 7\n");
-
-#[test]
-fn packages_of_one_file(rt: HostRuntime) -> Result<(), Fail> {
-    let empty = ("src/e/e.go", "package e\n");
-    let sum = ("src/a/a.go", "package a\n\nconst N = 7 + 1\n");
-    let hex = ("src/a/a.go", "package a\n\nconst N = 0x_ff\n");
-    let seven = "const a.N untyped int = 7\n";
-    let eight = "const a.N untyped int = 8\n";
-    let most = "const a.N untyped int = 255\n";
-    let some = "refused: NoSuch a.M\nconst a.N untyped int = 7\n";
-    let query = ["build", "a", "decl N"];
-    case(&rt, &[SEVEN], &query, Status::Ok, seven, "")?;
+const ONE_FILE: &[Row] = &[
+    (
+        &[SEVEN],
+        &["build", "a", "decl N"],
+        Status::Ok,
+        "const a.N untyped int = 7\n",
+        "",
+    ),
     // a package that declares nothing
-    case(&rt, &[empty], &["build", "e"], Status::Ok, "", "")?;
-    case(&rt, &[sum], &query, Status::Ok, eight, "")?;
+    (
+        &[("src/e/e.go", "package e\n")],
+        &["build", "e"],
+        Status::Ok,
+        "",
+        "",
+    ),
+    (
+        &[("src/a/a.go", "package a\n\nconst N = 7 + 1\n")],
+        &["build", "a", "decl N"],
+        Status::Ok,
+        "const a.N untyped int = 8\n",
+        "",
+    ),
     // a name that isn't declared, and one that is
-    case(
-        &rt,
+    (
         &[SEVEN],
         &["build", "a", "decl M", "decl N"],
         Status::QueryRefused,
-        some,
+        "refused: NoSuch a.M\nconst a.N untyped int = 7\n",
         "",
-    )?;
+    ),
     // base sixteen, with an underscore
-    case(&rt, &[hex], &query, Status::Ok, most, "")?;
-    Ok(())
-}
+    (
+        &[("src/a/a.go", "package a\n\nconst N = 0x_ff\n")],
+        &["build", "a", "decl N"],
+        Status::Ok,
+        "const a.N untyped int = 255\n",
+        "",
+    ),
+];
 
-#[test]
-fn faults_of_sources(rt: HostRuntime) -> Result<(), Fail> {
-    let fraction = ("src/a/a.go", "package a\n\nconst N = 1.5\n");
-    // a struct's literal before a block
-    let literal = (
-        "src/a/a.go",
-        "package a\n\ntype T struct{ X int }\n\nfunc F(x T) int {\n\tif x == T{1} {\n\t\treturn 1\n\t}\n\treturn 0\n}\n",
-    );
-    case(
-        &rt,
-        &[fraction],
+// The second has a struct's literal before a block.
+const FAULTY: &[Row] = &[
+    (
+        &[("src/a/a.go", "package a\n\nconst N = 1.5\n")],
         &["build", "a"],
         Status::Refused,
         "",
         "src/a/a.go:3:11: FloatLiteral\n",
-    )?;
-    case(
-        &rt,
-        &[literal],
+    ),
+    (
+        &[(
+            "src/a/a.go",
+            "package a\n\ntype T struct{ X int }\n\nfunc F(x T) int {\n\tif x == T{1} {\n\t\treturn 1\n\t}\n\treturn 0\n}\n",
+        )],
         &["build", "a"],
         Status::Refused,
         "",
         "src/a/a.go:6:15: Unexpected\n",
-    )?;
-    Ok(())
-}
+    ),
+];
 
-#[test]
-fn packages_that_are_missing_or_import_each_other(rt: HostRuntime) -> Result<(), Fail> {
-    let unused = ("src/b/b.go", "package b\n\nimport \"a\"\n\nconst M = 1\n");
-    let first = ("src/a/a.go", "package a\n\nimport \"b\"\n\nconst N = b.M\n");
-    let second = ("src/b/b.go", "package b\n\nimport \"a\"\n\nconst M = a.N\n");
-    case(
-        &rt,
-        &[SEVEN, unused],
+const MISSING_OR_CYCLIC: &[Row] = &[
+    (
+        &[
+            SEVEN,
+            ("src/b/b.go", "package b\n\nimport \"a\"\n\nconst M = 1\n"),
+        ],
         &["build", "b"],
         Status::Refused,
         "",
         "src/b/b.go:3:8: UnusedImport a\n",
-    )?;
-    case(
-        &rt,
-        &[],
-        &["build", "z"],
-        Status::NoFile,
-        "",
-        "no file: src/z\n",
-    )?;
-    case(
-        &rt,
-        &[first, second],
+    ),
+    (&[], &["build", "z"], Status::NoFile, "", "no file: src/z\n"),
+    (
+        &[
+            ("src/a/a.go", "package a\n\nimport \"b\"\n\nconst N = b.M\n"),
+            ("src/b/b.go", "package b\n\nimport \"a\"\n\nconst M = a.N\n"),
+        ],
         &["build", "a"],
         Status::Refused,
         "",
         "import cycle: a\n",
-    )?;
-    Ok(())
-}
+    ),
+];
+
+const NO_COMMANDS: &[Row] = &[
+    (&[], &[], Status::Usage, "", USAGE),
+    (&[], &["gen", "0"], Status::Usage, "", USAGE),
+    (&[], &["build", "a//b"], Status::Usage, "", USAGE),
+];
 
 #[test]
-fn words_that_spell_no_command(rt: HostRuntime) -> Result<(), Fail> {
-    case(&rt, &[], &[], Status::Usage, "", USAGE)?;
-    case(&rt, &[], &["gen", "0"], Status::Usage, "", USAGE)?;
-    case(&rt, &[], &["build", "a//b"], Status::Usage, "", USAGE)?;
+fn worked_examples(rt: HostRuntime) -> Result<(), Fail> {
+    for rows in [ONE_FILE, FAULTY, MISSING_OR_CYCLIC, NO_COMMANDS] {
+        expect(&rt, rows)?;
+    }
     Ok(())
 }
 
@@ -151,21 +151,6 @@ fn what_stands_behind_a_refusal(rt: HostRuntime) -> Result<(), Fail> {
     Ok(())
 }
 
-// The linked file of `SEVEN`.
-const SEVEN_FILE: &[u8] = b"\x01\0\0\0\0\0\0\0\
-    \x03\0\0\0\x05\0\0\0\x06\0\0\0\x07\0\0\0\x08\0\0\0\x09\0\0\0\x0a\0\0\0\x0b\0\0\0\x0c\0\0\0\x0c\0\0\0\
-    \x01\0\0\0\x0b\0\0\0\x0c\0\0\0\x17\0\0\0\x19\0\0\0\x1e\0\0\0\x23\0\0\0\x2b\0\0\0\x2e\0\0\0\x3c\0\0\0\x3d\0\0\0\x45\0\0\0\
-    asrc/a/a.goN\
-    \x02\x03\0\x06\0\0\0\x01\0\x01\0\0\0\
-    \x01\0\x01\0\x01\
-    \x01\0\0\0\0\
-    \x02\x03\0\0\x02\0\x01\x01\
-    \0\0\x14\
-    \x02\x02\0\x05\0\x01\0\x03\x07\0\x01\0\x02\x0e\
-    \0\
-    \0\0\0\0\0\0\0\0\
-    \x0b\x20\x00\xa1\xfa\x75\xd6\xb3";
-
 #[test]
 fn the_bytes_of_linked_files(rt: HostRuntime) -> Result<(), Fail> {
     let alloc = rt.alloc();
@@ -197,7 +182,7 @@ fn the_worked_file_is_dumped(rt: HostRuntime) -> Result<(), Fail> {
 fn a_first_call_that_fails(rt: HostRuntime) -> Result<(), Fail> {
     let alloc = rt.alloc();
     let mut store = store_of(alloc, &[SEVEN])?;
-    let ended = run_failing(alloc, &["build", "a", "decl N"], &mut store, &[0])?;
+    let ended = run_with(alloc, &["build", "a", "decl N"], &mut store, 1000, &[0])?;
     assert_eq!(rt; ended.status, Status::OutFault);
     assert!(rt; store.file("unit/a.u").is_some() && store.file("lib/a.u").is_some());
     let mut failing = MemStore::new(alloc, [0u64].to_vec(alloc)?, 0);

@@ -1,5 +1,5 @@
 use Rattle.std.proofs.Common.{◌≡◌, ◌∙◌, ap, sym, map, Result, Ok}
-use Rattle.ui_types.specs.declared.check_fault.Fault.{Fault}
+use Rattle.ui_base.specs.declared.fault.Fault.{Fault}
 use Rattle.ui_sources.specs.Sources.{Trees, source_of, trees_of}
 use Rattle.ui_build.specs.Sources.{trees_seen}
 use Rattle.ui_build.specs.Package.{imports_by_trees}

@@ -31,7 +31,7 @@ pub loop-text-preserved : goal.loop-text-preserved
 loop-text-preserved c =
     loop_next c.args.«package».now c.constants-text-items.result.now.entries c.loop-text.yielded (c.in-Some.text, c.in-Some.constant) c.deref.result.now c.loop-text.entries.items _ c.in_ok-entry.entry c.loop-text.bases.keys _ c.args.strings.now.keys c.loop-text.strings.keys _ c.requires.names c.constants-text-items.ensures c.into_iter-text-iterator.ensures.into_iter_gives.5
     (iter_turn deref_pair c.constants-text-items.result.now.entries c.loop-text.yielded c.into_iter-text-iterator.result c.loop-text.text-iterator c.next.new.self c.next.result c.into_iter-text-iterator.ensures.into_iter_gives.0 c.loop-text.yielded_by (c.in-Some.text, c.in-Some.constant) c.in-Some.is c.next.ensures.steps).1
-    c.deref.ensures.value c.in_ok-push.ensures.items c.loop-text.invariant c.in_ok-entry.ensures.texts c.in_ok-entry.ensures.files c.in_ok-entry.ensures.is
+    c.deref.ensures.value c.in_ok-push.ensures.items c.loop-text.invariant c.in_ok-entry.ensures.texts c.in_ok-entry.ensures.files c.in_ok-entry.ensures.is c.in_ok-entry.ensures.apart c.in_ok-entry.ensures.used c.in_ok-entry.ensures.file_used
 
 pub returns-clause-numbers : goal.returns-clause-numbers
 returns-clause-numbers c =

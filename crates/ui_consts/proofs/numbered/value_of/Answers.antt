@@ -7,3 +7,6 @@ place_of-requires-clause-short c = omega (arith, ap length c.deref.ensures.value
 
 pub returns-clause-value : goal.returns-clause-value
 returns-clause-value c = value_is c.in_ok-bytes.bytes.items c.deref.result.now c.args.value c.in_ok-magnitude.magnitude _ c.deref.ensures.value c.in_ok-bytes.ensures.number c.in_ok-bytes.ensures.shortest (omega arith) c.requires.small c.in_ok-magnitude.ensures.place
+
+pub returns-clause-used : goal.returns-clause-used
+returns-clause-used c = c.in_ok-magnitude.ensures.used

@@ -1,4 +1,4 @@
-use Rattle.ui_depth.specs.Passes.{tells_exprs, tells_types, tells_sigs}
+use Rattle.ui_depth.proofs.Passes.{tells_exprs, tells_types, tells_sigs}
 use Rattle.ui_depth.proofs.laws.faults_of_depth.Goals as goal
 
 pub returns-clause-expressions : goal.returns-clause-expressions

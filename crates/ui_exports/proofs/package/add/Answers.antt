@@ -1,7 +1,7 @@
 use Rattle.std.proofs.Common.{◌≡◌, Bool, true, false, not, sym, ap, ◌∙◌}
 use Rattle.std.specs.Prelude.{is_some}
 use Rattle.ui_exports.specs.Constants.{declarations_of}
-use Rattle.ui_exports.specs.Entries.{declarations_of-insert, is_there}
+use Rattle.ui_exports.proofs.Entries.{declarations_of-insert, is_there}
 use Rattle.ui_exports.proofs.package.add.Goals as goal
 
 turned : (was none there : Bool) → was ≡ not none → there ≡ was → none ≡ not there

@@ -1,4 +1,4 @@
-use Rattle.ui_exports.specs.Entries.{find_declaration}
+use Rattle.ui_exports.proofs.Entries.{find_declaration}
 use Rattle.ui_exports.proofs.package.find.Goals as goal
 
 pub returns : goal.returns

@@ -4,7 +4,7 @@ use Rattle.ui_tree.specs.StmtView.{decl_view}
 use Rattle.ui_forms.specs.Numbers.{has}
 use Rattle.ui_forms.specs.Form.{constants_of}
 use Rattle.ui_forms.proofs.NumberLemmas.{has-empty}
-use Rattle.ui_forms.proofs.StepLemmas.{behind_start}
+use Rattle.ui_base.proofs.StepLemmas.{behind_start}
 use Rattle.ui_forms.proofs.ConstantLemmas.{constants_end, constants_more, constants_stop}
 use Rattle.ui_forms.proofs.constant.constants_in.Goals as goal
 

@@ -3,7 +3,7 @@ use Rattle.ui_tree.specs.StmtView.{decl_view}
 use Rattle.ui_forms.specs.Form.{constants_of}
 use Rattle.ui_forms.specs.Numbers.{has}
 use Rattle.ui_forms.specs.Sums.{nothing}
-use Rattle.ui_forms.proofs.StepLemmas.{behind}
+use Rattle.ui_base.proofs.StepLemmas.{behind}
 use Rattle.ui_forms.proofs.constant.constants_in.Given as goal
 
 abbrev pub invariant-loop-decl : goal.invariant-loop-decl

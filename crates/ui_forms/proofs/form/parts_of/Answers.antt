@@ -1,6 +1,7 @@
 use Rattle.std.proofs.lemmas.Result.{err_from_is_err_and}
 use Rattle.ui_forms.specs.Form.{at_file, part_of, source_of}
-use Rattle.ui_forms.proofs.StepLemmas.{behind_start, each_ended, each_form_stops, each_more}
+use Rattle.ui_base.proofs.StepLemmas.{behind_start, each_ended, each_more}
+use Rattle.ui_forms.proofs.StepLemmas.{each_form_stops}
 use Rattle.ui_forms.proofs.form.parts_of.Goals as goal
 
 pub loop-file-init : goal.loop-file-init

@@ -1,7 +1,8 @@
 use Rattle.std.proofs.lemmas.Result.{err_from_is_err_and}
 use Rattle.ui_tree.specs.StmtView.{import_view}
 use Rattle.ui_forms.specs.Form.{import_of}
-use Rattle.ui_forms.proofs.StepLemmas.{behind_start, each_ended, each_more, each_part_stops}
+use Rattle.ui_base.proofs.StepLemmas.{behind_start, each_ended, each_more}
+use Rattle.ui_forms.proofs.StepLemmas.{each_part_stops}
 use Rattle.ui_forms.proofs.import.imports_in.Goals as goal
 
 pub loop-import-init : goal.loop-import-init

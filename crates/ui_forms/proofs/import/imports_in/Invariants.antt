@@ -1,8 +1,8 @@
 use Rattle.std.proofs.Common.{◌≡◌, map, drop}
 use Rattle.ui_tree.specs.StmtView.{import_view}
 use Rattle.ui_forms.specs.Form.{import_of}
-use Rattle.ui_forms.specs.Steps.{each}
-use Rattle.ui_forms.proofs.StepLemmas.{behind}
+use Rattle.ui_base.specs.Steps.{each}
+use Rattle.ui_base.proofs.StepLemmas.{behind}
 use Rattle.ui_forms.proofs.import.imports_in.Given as goal
 
 abbrev pub invariant-loop-import : goal.invariant-loop-import

@@ -1,5 +1,5 @@
 use Rattle.std.proofs.Common.{◌≡◌, ◌^◌, ◌<◌, [], drop}
-use Rattle.ui_types.specs.declared.check_fault.FaultKind.TheVariants.{ConstTooBig}
+use Rattle.ui_base.specs.declared.fault.FaultKind.TheVariants.{ConstTooBig}
 use Rattle.ui_forms.specs.Scope.{selection_of}
 use Rattle.ui_forms.specs.Verdict.{constant_value, fault_at, sum_of, term_value}
 use Rattle.ui_forms.proofs.values.constant_value.Given as goal

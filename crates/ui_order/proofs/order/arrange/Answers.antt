@@ -2,9 +2,8 @@ use Rattle.std.specs.Prelude.{◌<◌, Some, length, map, nat_eq, string_bytes}
 use Rattle.std.proofs.Common.{◌∙◌, ap, sym, subst, arith}
 use Rattle.ui_order.specs.Steps.{has}
 use Rattle.ui_order.specs.Tables.{graph_of, texts}
-use Rattle.ui_order.specs.Numbers.{number_order}
+use Rattle.ui_order.specs.Numbers.{number_order, IsFirstOnCycle}
 use Rattle.ui_order.specs.Numbered.{names, path_at}
-use Rattle.ui_order.specs.Components.{IsFirstOnCycle}
 use Rattle.ui_order.proofs.ArrangeLemmas.{linked_slice, count_named, order_small, cycle_is, paths_are}
 use Rattle.ui_order.proofs.order.arrange.Goals as goal
 

@@ -1,6 +1,6 @@
 use Rattle.std.proofs.Common.{rules}
 use Rattle.ui_scan.specs.declared.kind.TokenKind.TheVariants.{Comma}
-use Rattle.ui_parse.specs.ListLaws.{called_reads, chain_read}
+use Rattle.ui_parse.proofs.ListLaws.{called_reads, chain_read}
 use Rattle.ui_parse.specs.Names.{one_name_more}
 use Rattle.ui_parse.proofs.names.more_names.Goals as goal
 

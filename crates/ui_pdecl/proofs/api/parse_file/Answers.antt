@@ -2,7 +2,7 @@ use Rattle.std.proofs.Common.{◌≡◌, ◌-◌, List, length, Ok, Err, subst, 
 use Rattle.ui_grammar.specs.Word.{Word}
 use Rattle.ui_parse.specs.View.{Reads}
 use Rattle.ui_parse.specs.declared.fault.ParseError.TheVariants.{Fault}
-use Rattle.ui_stmts.specs.Decides.{whole_file}
+use Rattle.ui_stmts.specs.Decls.{whole_file}
 use Rattle.ui_pdecl.specs.Seen.{see_file}
 use Rattle.ui_pdecl.proofs.Readings.{result_ok, result_fault}
 use Rattle.ui_pdecl.proofs.api.parse_file.Goals as goal

@@ -1,5 +1,5 @@
 use Rattle.std.proofs.Common.{◌-◌, rules, refl}
-use Rattle.ui_parse.specs.ListLaws.{called_reads, parts_read}
+use Rattle.ui_parse.proofs.ListLaws.{called_reads, parts_read}
 use Rattle.ui_scan.specs.declared.kind.TokenKind.TheVariants.{Comma, RBracket}
 use Rattle.ui_stmts.specs.Decls.{type_param, type_params_ending}
 use Rattle.ui_pdecl.specs.Seen.{see_type_params}

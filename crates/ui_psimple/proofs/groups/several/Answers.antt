@@ -2,7 +2,7 @@ use Rattle.std.proofs.Common.{◌≡◌, rules, refl, ap, subst}
 use Rattle.ui_scan.specs.declared.kind.TokenKind.TheVariants.{Semi, RParen}
 use Rattle.ui_parse.specs.Reader.{parts}
 use Rattle.ui_parse.specs.View.{Reads}
-use Rattle.ui_parse.specs.ListLaws.{called_reads, parts_read}
+use Rattle.ui_parse.proofs.ListLaws.{called_reads, parts_read}
 use Rattle.ui_syntax.specs.Types.{Listed, empty, any_end}
 use Rattle.ui_stmts.specs.Common.{one_spec_more}
 use Rattle.ui_psimple.specs.Seen.{see_list}

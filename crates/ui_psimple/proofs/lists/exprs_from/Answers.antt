@@ -1,6 +1,6 @@
 use Rattle.std.proofs.Common.{rules}
 use Rattle.ui_scan.specs.declared.kind.TokenKind.TheVariants.{Comma}
-use Rattle.ui_parse.specs.ListLaws.{called_reads, chain_read}
+use Rattle.ui_parse.proofs.ListLaws.{called_reads, chain_read}
 use Rattle.ui_ptype.specs.Seen.{see_all}
 use Rattle.ui_stmts.specs.Common.{one_expr_more}
 use Rattle.ui_psimple.proofs.lists.exprs_from.Goals as goal

@@ -1,6 +1,6 @@
 use Rattle.std.proofs.Common.{◌≡◌, length, Ok, map, ap, sym, ◌∙◌, arith}
 use Rattle.ui_sources.specs.Sources.{source_of, source_tree, tokens_in, tree_in}
-use Rattle.ui_sources.proofs.StepLemmas.{each_more, pushed}
+use Rattle.ui_base.proofs.StepLemmas.{each_more, pushed}
 use Rattle.ui_sources.proofs.SourceLemmas.{item_short}
 use Rattle.ui_sources.proofs.SourceLemmas.{item_tokens, same_count}
 use Rattle.ui_sources.proofs.parse.parse_all.Goals as goal

@@ -1,7 +1,7 @@
 use Rattle.std.proofs.Common.{◌≡◌, map, drop}
 use Rattle.ui_sources.specs.Sources.{source_of, tokens_in}
-use Rattle.ui_sources.specs.Steps.{each}
-use Rattle.ui_sources.proofs.StepLemmas.{behind}
+use Rattle.ui_base.specs.Steps.{each}
+use Rattle.ui_base.proofs.StepLemmas.{behind}
 use Rattle.ui_sources.proofs.scan.scan_all.Given as goal
 
 abbrev pub invariant-loop-source : goal.invariant-loop-source

@@ -1,6 +1,5 @@
-use Rattle.std.proofs.Common.{◌≡◌, ◌-◌, rules, refl, sym, ap, subst}
-use Rattle.ui_parse.specs.View.{Reads}
-use Rattle.ui_parse.specs.ListLaws.{called_reads, parts_read}
+use Rattle.std.proofs.Common.{◌-◌, rules, refl}
+use Rattle.ui_parse.proofs.ListLaws.{called_reads, parts_read}
 use Rattle.ui_syntax.specs.Read.{readers}
 use Rattle.ui_scan.specs.declared.kind.TokenKind.TheVariants.{Comma, RParen}
 use Rattle.ui_pread.specs.Seen.{see_arguments}

@@ -1,4 +1,4 @@
-use Rattle.std.proofs.Common.{◌-◌, sym, ◌∙◌}
+use Rattle.std.proofs.Common.{◌-◌}
 use Rattle.ui_syntax.specs.Read.{readers}
 use Rattle.ui_pread.proofs.Conversions.{behind_alone, behind_convert}
 use Rattle.ui_pread.proofs.exprs.Exprs.behind_type.Goals as goal

@@ -1,4 +1,4 @@
-use Rattle.std.proofs.Common.{◌-◌, sym, ◌∙◌}
+use Rattle.std.proofs.Common.{◌-◌}
 use Rattle.ui_syntax.specs.Read.{readers}
 use Rattle.ui_pread.proofs.Conversions.{convert_alone}
 use Rattle.ui_pread.proofs.exprs.Exprs.convert_or.Goals as goal

@@ -1,5 +1,5 @@
 use Rattle.std.proofs.Common.{◌-◌, rules, refl}
-use Rattle.ui_parse.specs.ListLaws.{called_reads, parts_read}
+use Rattle.ui_parse.proofs.ListLaws.{called_reads, parts_read}
 use Rattle.ui_syntax.specs.Read.{readers}
 use Rattle.ui_scan.specs.declared.kind.TokenKind.TheVariants.{Comma, RBracket}
 use Rattle.ui_ptype.specs.Seen.{see_types}
@@ -10,4 +10,4 @@ use Rattle.ui_ptype.proofs.grammar.Grammar.args_behind.Goals as goal
 pub returns : goal.returns
 returns g c =
     let step = one_more (type_in (c.args.self.now.budget - 1) (readers (c.args.self.now.budget - 1)) c.args.lower) in
-    rw (← c.in_ok-all.ensures) (parts_read Comma RBracket _ any_end see_types _ step (λ s. refl) (λ s. refl) (called_reads see_types _ step (λ old new s r k. search rules)) c.in_ok-all.all c.args.words.now c.parts.result c.parts.new.cursor c.parts.ensures)
+    rw (← c.in-Ok.ensures) (parts_read Comma RBracket _ any_end see_types _ step (λ s. refl) (λ s. refl) (called_reads see_types _ step (λ old new s r k. search rules)) c.in-Ok.all c.args.words.now c.parts.result c.parts.new.cursor c.parts.ensures)

@@ -1,5 +1,5 @@
 use Rattle.std.proofs.Common.{◌-◌, rules, refl}
-use Rattle.ui_parse.specs.ListLaws.{called_reads, parts_read}
+use Rattle.ui_parse.proofs.ListLaws.{called_reads, parts_read}
 use Rattle.ui_syntax.specs.Read.{readers}
 use Rattle.ui_scan.specs.declared.kind.TokenKind.TheVariants.{Semi, RBrace}
 use Rattle.ui_ptype.specs.Seen.{see_types}

@@ -1,8 +1,7 @@
 use Rattle.std.proofs.Common.{◌-◌, Some, Err}
-use Rattle.std.proofs.lemmas.Result.{err_from_is_err_and}
 use Rattle.ui_tree.specs.declared.part.Placed.{Placed}
 use Rattle.ui_parse.specs.Reader.{expect_name}
-use Rattle.ui_parse.specs.ListLaws.{reads_then, reads_fault}
+use Rattle.ui_parse.proofs.ListLaws.{reads_then, reads_fault}
 use Rattle.ui_syntax.specs.Read.{readers}
 use Rattle.ui_syntax.specs.Types.{a_type, maybe_args}
 use Rattle.ui_ptype.specs.Seen.{see_type}
@@ -16,18 +15,17 @@ pub returns-in-None : goal.returns-in-None
 returns-in-None g c = named_alone c.args.self.now.budget c.requires.positive (a_type (c.args.self.now.budget - 1) (readers (c.args.self.now.budget - 1))) c.args.name c.args.words.now c.maybe_args-in-None.result c.maybe_args-in-None.new.words
     c.take.result c.take.new.self c.if-self-lt2.false c.take.ensures.found c.in-None.is c.take.ensures.left c.maybe_args-in-None.ensures
 
-pub returns-in_err-member-in-Some : goal.returns-in_err-member-in-Some
-returns-in_err-member-in-Some g c =
+pub returns-in-Err : goal.returns-in-Err
+returns-in-Err g c =
     let b = c.args.self.now.budget in
     let type = a_type (b - 1) (readers (b - 1)) in
-    let p = err_from_is_err_and c.from_residual.result c.from_residual.ensures.1 in
-    rw (p.1, p.2) (named_member b c.requires.positive type c.args.name c.args.words.now (Err c.in_err-member-in-Some.field-0.0) c.expect_name.new.self c.take.result c.in-Some.field-0 c.take.new.self c.if-self-lt2.false c.take.ensures.found c.in-Some.is c.take.ensures.left
-    (reads_fault (λ (n : Placed). n) see_type (expect_name c.take.new.self) (λ m. maybe_args b type c.args.name (Some m)) c.in_err-member-in-Some.field-0.0 c.expect_name.new.self c.in_err-member-in-Some.ensures))
+    named_member b c.requires.positive type c.args.name c.args.words.now (Err c.in-Err.fault) c.expect_name.new.self c.take.result c.in-Some.field-0 c.take.new.self c.if-self-lt2.false c.take.ensures.found c.in-Some.is c.take.ensures.left
+    (reads_fault (λ (n : Placed). n) see_type (expect_name c.take.new.self) (λ m. maybe_args b type c.args.name (Some m)) c.in-Err.fault c.expect_name.new.self c.in-Err.ensures)
 
-pub returns-in_ok-member-in-Some : goal.returns-in_ok-member-in-Some
-returns-in_ok-member-in-Some g c =
+pub returns-in-Ok : goal.returns-in-Ok
+returns-in-Ok g c =
     let b = c.args.self.now.budget in
     let type = a_type (b - 1) (readers (b - 1)) in
     named_member b c.requires.positive type c.args.name c.args.words.now c.maybe_args-in-Some.result c.maybe_args-in-Some.new.words c.take.result c.in-Some.field-0 c.take.new.self c.if-self-lt2.false c.take.ensures.found c.in-Some.is c.take.ensures.left
-    (reads_then (λ (n : Placed). n) see_type (expect_name c.take.new.self) (λ m. maybe_args b type c.args.name (Some m)) c.in_ok-member-in-Some.member c.expect_name.new.self c.maybe_args-in-Some.result c.maybe_args-in-Some.new.words
-    c.in_ok-member-in-Some.ensures c.maybe_args-in-Some.ensures)
+    (reads_then (λ (n : Placed). n) see_type (expect_name c.take.new.self) (λ m. maybe_args b type c.args.name (Some m)) c.in-Ok.member c.expect_name.new.self c.maybe_args-in-Some.result c.maybe_args-in-Some.new.words
+    c.in-Ok.ensures c.maybe_args-in-Some.ensures)

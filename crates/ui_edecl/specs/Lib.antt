@@ -1,0 +1,5 @@
+pub mod Values
+pub mod Objects
+pub mod Extensions
+pub mod Dictionaries
+pub mod DeclLaws

@@ -1,8 +1,0 @@
-use Rattle.ui_fdepth.specs.Missing.{not_by_four, not_by_sixteen}
-use Rattle.ui_fdepth.proofs.laws.no_fixed_number.Goals as goal
-
-pub returns-clause-four : goal.returns-clause-four
-returns-clause-four c = not_by_four
-
-pub returns-clause-sixteen : goal.returns-clause-sixteen
-returns-clause-sixteen c = not_by_sixteen

@@ -1,5 +1,0 @@
-use Rattle.ui_order.specs.Found.{IsFound}
-use Rattle.ui_order.proofs.tests.discovered.Given as goal
-
-abbrev pub invariant-loop : goal.invariant-loop
-invariant-loop l = IsFound l.root l.discovery

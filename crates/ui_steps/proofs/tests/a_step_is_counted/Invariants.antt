@@ -1,4 +1,0 @@
-use Rattle.ui_steps.proofs.tests.a_step_is_counted.Given as goal
-
-abbrev pub ghosts-counts : goal.ghosts-counts
-ghosts-counts a = record { name = a.blank.name; parts = a.blank.parts }

@@ -1,8 +1,0 @@
-use Rattle.ui_types.specs.Table.{IsId}
-use Rattle.ui_types.proofs.tests.underlying_types.Given as goal
-
-abbrev pub invariant-loop-kind : goal.invariant-loop-kind
-invariant-loop-kind g l = record {
-  arg : IsId l.table l.int;
-  wanted : IsId l.table l.pointer × IsId l.table l.empty;
-}
