@@ -1,12 +1,11 @@
--- The ObjDict of a declaration without type parameters, derived types, method entries and sub-dictionaries; and Body, of
--- which none is in the grammar so far. This project's own, after `cmd/compile/internal/noder` of the Go tree.
+-- The ObjDict of a declaration without type parameters, derived types, method entries and sub-dictionaries. This project's
+-- own, after `cmd/compile/internal/noder` of the Go tree.
 use Rattle.std.specs.Prelude.{ℕ, nat_eq, if◌then◌else◌, Option, Some, None}
 use Rattle.ui_strpos.specs.declared.fault.Cause.{Cause}
 use Rattle.ui_strpos.specs.declared.fault.Cause.TheVariants.{BadCode}
 use Rattle.ui_strpos.specs.Reading.{Context}
-use Rattle.ui_strpos.specs.Format.{Format, uint_field, seq, via, no_format}
+use Rattle.ui_strpos.specs.Format.{Format, uint_field, seq, via}
 use Rattle.ui_edecl.specs.declared.dictionary.DictEl.{DictEl}
-use Rattle.ui_edecl.specs.declared.body.BodyEl.{BodyEl}
 
 -- a number that is always 0
 abbrev pub zero_number : Context → ℕ → Option Cause
@@ -20,6 +19,3 @@ abbrev pub dictionary : Format DictEl
 dictionary =
     via (λ x. record {}) (λ v. (0, (0, (0, (0, (0, (0, 0)))))))
     (seq zero_field (λ _. seq zero_field (λ _. seq zero_field (λ _. seq zero_field (λ _. seq zero_field (λ _. seq zero_field (λ _. zero_field)))))))
-
-abbrev pub body : Format BodyEl
-body = no_format

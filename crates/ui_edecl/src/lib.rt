@@ -5,7 +5,6 @@
 //! format: `specs/Values.antt`, `Objects.antt`, `Extensions.antt` and `Dictionaries.antt`.
 #![tactic(auto)]
 
-mod body;
 mod dictionary;
 mod extension;
 mod method;
@@ -13,7 +12,6 @@ mod object;
 mod param;
 mod value;
 
-pub use body::BodyEl;
 pub use dictionary::DictEl;
 pub use extension::{KeptEl, ObjExtEl};
 pub use method::DeclaredMethodEl;
