@@ -4,3 +4,4 @@ mod Containers
 mod Located
 mod Growing
 mod Spellings
+mod Appending

@@ -1,5 +1,5 @@
 -- The spelling of a number, a group at a time.
-use Rattle.std.proofs.Common.{◌≡◌, ℕ, zero, suc, ◌+◌, ◌*◌, ◌/◌, ◌%◌, ◌^◌, ◌<◌, ◌≤◌, ◌-◌, Bool, true, false, cond, ltb, eqb, List, [], ◌∷◌, ◌++◌, refl, sym, ap, ◌∙◌, append_assoc, add-one, subst, drop, get_or, length, ◌⊎◌, Result, Ok, Err, arith, inl, inr}
+use Rattle.std.proofs.Common.{◌≡◌, ℕ, zero, suc, ◌+◌, ◌*◌, ◌/◌, ◌%◌, ◌^◌, ◌<◌, ◌≤◌, ◌-◌, Bool, true, false, cond, ltb, eqb, List, [], ◌∷◌, ◌++◌, refl, sym, ap, ◌∙◌, add-one, subst, drop, get_or, length, ◌⊎◌, Result, Ok, Err, arith, inl, inr}
 use Rattle.std.specs.List.{AllByRecursion}
 use Rattle.ui_frame.specs.declared.number.NumFault.{NumFault}
 use Rattle.ui_frame.specs.declared.number.NumFault.TheVariants.{LongNumber, BadBool}
@@ -42,10 +42,6 @@ unfolding uint
 uint_more n le lt =
     let below : Below 8 (n / 128) = omega arith in
     groups_next 9 n le ∙ ap (λ (gs : List ℕ). (128 + n % 128) ∷ gs) (sym (groups_more 8 (n / 128) below))
-
--- what a turn of the writer's loop keeps
-pub push_group : (out : List ℕ) (n : ℕ) → 128 ≤ n → n < 2 ^ 64 → (out ++ (128 + n % 128) ∷ []) ++ uint (n / 128) ≡ out ++ uint n
-push_group out n le lt = append_assoc out ((128 + n % 128) ∷ []) (uint (n / 128)) ∙ ap (λ (gs : List ℕ). out ++ gs) (sym (uint_more n le lt))
 
 abbrev done : {A F : Type 0} → A → Result A F
 done x = Ok x

@@ -22,6 +22,13 @@ groups (suc more) n = if nat_lt n 128 then n ∷ [] else (128 + n % 128) ∷ gro
 unfoldable pub uint : ℕ → List ℕ
 uint n = groups 10 n
 
+-- a front of the spelling was appended, maybe nothing of it or all
+pub record AppendsFront (spelling old new : List ℕ) : Type 0 where
+  pub front : List ℕ
+  pub rest : List ℕ
+  pub whole : spelling ≡ front ++ rest
+  pub appended : new ≡ old ++ front
+
 -- a signed number as one without a sign
 abbrev pub zigzag : ℤ → ℕ
 zigzag (pos n) = 2 * n

@@ -1,7 +1,7 @@
 // Numbers and truth values as bytes, each in its shortest spelling.
-ghost use Rattle.std.specs.Prelude.{◌≡◌, ◌↔◌, ℕ, ℤ, Bool, List, take, ◌+◌, ◌<◌, ◌≤◌, ◌^◌, ◌++◌, length, drop, IfOk, OnOk};
+ghost use Rattle.std.specs.Prelude.{◌≡◌, ◌↔◌, ℕ, ℤ, Bool, List, take, ◌+◌, ◌<◌, ◌≤◌, ◌^◌, ◌++◌, length, drop, IfOk, OnOk, OnErr};
 ghost use Rattle.ui_frame.specs.Laws.{IsBytes};
-ghost use Rattle.ui_frame.specs.Number.{IsCutUint, IsUint, uint, int, truth, zigzag};
+ghost use Rattle.ui_frame.specs.Number.{AppendsFront, IsCutUint, IsUint, uint, int, truth, zigzag};
 ghost use Rattle.ui_frame.specs.declared.number.NumFault.{NumFault};
 ghost use Rattle.ui_frame.specs.Reading.{number_at, uint_at, int_at, truth_at, placed};
 
@@ -94,10 +94,10 @@ pub fn get_bool(bytes: &[u8], at: usize) -> Result<(bool, usize), NumFault>
     }
 }
 
-/// Appends a number.
-#[tactic(auto, using(crate::specs::Laws::uint_last, crate::specs::Laws::push_group))]
+/// Appends a number. Without memory a front of it may stand there.
 pub fn put_uint(alloc: Global, out: &mut Vec<u8>, n: u64) -> Result<(), NoMemory>
-    ensures { OnOk result (out.new.items ≡ out.old.items ++ uint n) }
+    ensures ok { OnOk result (out.new.items ≡ out.old.items ++ uint n) }
+    ensures err { OnErr result (AppendsFront (uint n) out.old.items out.new.items) }
 {
     let mut rest = n;
     while rest >= 128 {
@@ -108,9 +108,10 @@ pub fn put_uint(alloc: Global, out: &mut Vec<u8>, n: u64) -> Result<(), NoMemory
     Ok(())
 }
 
-/// Appends a signed number.
+/// Appends a signed number. Without memory a front of it may stand there.
 pub fn put_int(alloc: Global, out: &mut Vec<u8>, n: i64) -> Result<(), NoMemory>
-    ensures { OnOk result (out.new.items ≡ out.old.items ++ int n) }
+    ensures ok { OnOk result (out.new.items ≡ out.old.items ++ int n) }
+    ensures err { OnErr result (AppendsFront (int n) out.old.items out.new.items) }
 {
     let zigzag = if n >= 0 {
         2 * (n as u64)
@@ -120,9 +121,10 @@ pub fn put_int(alloc: Global, out: &mut Vec<u8>, n: i64) -> Result<(), NoMemory>
     put_uint(alloc, out, zigzag)
 }
 
-/// Appends a truth value.
+/// Appends a truth value. Without memory nothing is appended.
 pub fn put_bool(alloc: Global, out: &mut Vec<u8>, b: bool) -> Result<(), NoMemory>
-    ensures { OnOk result (out.new.items ≡ out.old.items ++ truth b) }
+    ensures ok { OnOk result (out.new.items ≡ out.old.items ++ truth b) }
+    ensures err { OnErr result (out.new.items ≡ out.old.items) }
 {
     out.push(if b { 1 } else { 0 })?;
     Ok(())
