@@ -1,8 +1,10 @@
 -- What the code has read, as its readers give it.
-use Rattle.std.specs.Prelude.{ℕ, map}
+use Rattle.std.specs.Prelude.{ℕ, List, map}
+use Rattle.ui_tree.specs.declared.part.Group.{Group}
 use Rattle.ui_tree.specs.declared.part.Sig.{Sig}
 use Rattle.ui_tree.specs.declared.expr.TypeExpr.{TypeExpr}
 use Rattle.ui_tree.specs.declared.decl.ImportSpec.{ImportSpec}
+use Rattle.ui_tree.specs.Tree.{TypeTree}
 use Rattle.ui_tree.specs.Stmt.{Imported, File}
 use Rattle.ui_tree.specs.View.{type_view, group_with}
 use Rattle.ui_tree.specs.StmtView.{maybe_type_view, import_view, decl_view}
@@ -15,6 +17,9 @@ use Rattle.ui_pdecl.specs.declared.files.FileBody.{FileBody}
 
 abbrev pub import_spec_view : ImportSpec → Imported
 import_spec_view s = record { name = s.name; path = s.path }
+
+abbrev pub groups_seen : List (Group TypeExpr) → List (Group TypeTree)
+groups_seen = map (group_with type_view)
 
 abbrev pub see_type_params : TypeParams → decls.TypeParams
 see_type_params s = record { groups = map (group_with type_view) s.groups; waiting = s.waiting; depth = s.depth }

@@ -5,7 +5,6 @@ ghost use Rattle.ui_grammar.specs.Word.{words};
 ghost use Rattle.ui_scan.specs.Tokens.{Tokens};
 ghost use Rattle.ui_stmts.specs.Decls.{type_params_apart};
 ghost use Rattle.ui_pexpr.specs.Back.{back_of};
-ghost use Rattle.ui_pexpr.specs.Faults as faults;
 ghost use Rattle.ui_pexpr.specs.Faults.{front_of};
 ghost use Rattle.ui_pexpr.specs.Forms.{is_whole};
 ghost use Rattle.ui_pdecl.specs.FileResult as results;
@@ -17,7 +16,7 @@ use std::alloc::{AllocError, Global};
 use ui_base::NoMemory;
 use ui_parse::{Cursor, ParseError};
 use ui_pexpr::{
-    Form, Front, ParseFault, before_last, ends_in, first_offset, form_if, opening, told,
+    Form, Front, ParseFault, before_last, ends_in, first_kind, first_offset, form_if, opening, told,
 };
 use ui_scan::{Token, TokenKind};
 
@@ -132,15 +131,6 @@ fn fault_at(
         return Ok(ParseFault::TooDeep { at });
     }
     Ok(told(false, form_by_kind(alloc, front, kind)?, at))
-}
-
-fn first_kind(tokens: &[Token]) -> Option<TokenKind>
-    ensures { result ≡ faults.first_kind tokens.now }
-{
-    match tokens {
-        [] => None,
-        [first, ..] => Some(first.kind),
-    }
 }
 
 /// The fault of a file behind its first so many words, where no file goes on.

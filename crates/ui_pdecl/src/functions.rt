@@ -1,14 +1,17 @@
 //! Functions and methods, behind the keyword. Go specification, "Function declarations" and "Method declarations".
 
-ghost use Rattle.std.specs.Prelude.{◌≡◌, ◌-◌, ◌<◌};
+ghost use Rattle.std.specs.Prelude.{◌≡◌, ◌-◌, ◌<◌, max};
 ghost use Rattle.ui_parse.specs.View.{Reads};
 ghost use Rattle.ui_ptype.specs.Seen.{results_tree, results_depth};
-ghost use Rattle.ui_tree.specs.StmtView.{decl_view, receiver_view, maybe_groups};
+ghost use Rattle.ui_tree.specs.Stmt.{method_decl, func_decl};
+ghost use Rattle.ui_tree.specs.StmtView.{decl_view, receiver_view, maybe_groups, maybe_type_view, groups_view};
 ghost use Rattle.std.specs.Option.{option_map};
 ghost use Rattle.ui_tree.specs.View.{type_view, maybe_type};
+ghost use Rattle.ui_stmts.specs.Common.{sized};
 ghost use Rattle.ui_stmts.specs.Decls as spec;
+ghost use Rattle.ui_pstmt.specs.Seen.{see_block};
 ghost use Rattle.ui_psimple.specs.Seen.{see_deep};
-ghost use Rattle.ui_pdecl.specs.Parts.{func_named};
+ghost use Rattle.ui_pdecl.specs.Parts.{func_named, method_named};
 ghost use Rattle.ui_pdecl.specs.Seen.{see_signature};
 
 use crate::budgets::body;
@@ -19,6 +22,7 @@ use ui_base::Spot;
 use ui_parse::{Cursor, ParseError};
 use ui_pread::{params, results};
 use ui_psimple::Deep;
+use ui_pstmt::BlockSub;
 use ui_ptype::{TypeSub, deeper};
 use ui_scan::TokenKind;
 use ui_tree::{Boxed, DeclTree, Group, Items, Placed, Receiver, Sig, TypeExpr};
@@ -50,16 +54,86 @@ fn signature(alloc: Global, words: &mut Cursor<'_>, budget: u32) -> Result<Signa
 {
     words.expect(TokenKind::LParen)?;
     let params = params(alloc, words, budget)?;
-    let results = results(alloc, words, budget)?;
-    let results = result_of(results);
-    let depth = deeper(params.depth.max(results.depth))?;
-    Ok(Deep {
-        of: Sig {
-            params: params.items,
-            results: results.of,
+    match results(alloc, words, budget) {
+        Ok(results) => {
+            let results = result_of(results);
+            match deeper(params.depth.max(results.depth)) {
+                Ok(depth) => Ok(Deep {
+                    of: Sig {
+                        params: params.items,
+                        results: results.of,
+                    },
+                    depth,
+                }),
+                Err(_) => Err(ParseError::NoMemory),
+            }
+        }
+        Err(fault) => Err(fault),
+    }
+}
+
+// A method behind its name.
+fn method_named(
+    alloc: Global,
+    words: &mut Cursor<'_>,
+    budget: u32,
+    spot: Spot,
+    receiver: Receiver,
+    name: Placed,
+) -> Result<Deep<DeclTree>, ParseError>
+    requires { 0 < budget }
+    ensures { Reads (see_deep decl_view) (method_named (budget - 1) spot (receiver_view receiver) name words.old) result words.new }
+{
+    match signature(alloc, words, budget) {
+        Ok(sig) => match body(alloc, words, budget) {
+            Ok(body) => Ok(method_of(spot, receiver, name, sig, body)),
+            Err(fault) => Err(fault),
+        },
+        Err(fault) => Err(fault),
+    }
+}
+
+fn method_of(
+    spot: Spot,
+    receiver: Receiver,
+    name: Placed,
+    sig: Signature,
+    body: BlockSub,
+) -> Deep<DeclTree>
+    ensures { see_deep decl_view result ≡ sized (method_decl spot (receiver_view receiver) name (groups_view sig.of.params) (maybe_type_view sig.of.results) (see_block body).of) (max sig.depth body.depth) }
+{
+    Deep {
+        of: DeclTree::Method {
+            spot,
+            receiver,
+            name,
+            sig: sig.of,
+            body: body.of,
+        },
+        depth: sig.depth.max(body.depth),
+    }
+}
+
+fn func_of(
+    spot: Spot,
+    name: Placed,
+    params: MaybeParams,
+    sig: Signature,
+    body: BlockSub,
+) -> Deep<DeclTree>
+    ensures { see_deep decl_view result ≡ sized (func_decl spot name (maybe_groups params.of) (groups_view sig.of.params) (maybe_type_view sig.of.results) (see_block body).of) (max params.depth (max sig.depth body.depth)) }
+{
+    let depth = params.depth.max(sig.depth.max(body.depth));
+    Deep {
+        of: DeclTree::Func {
+            spot,
+            name,
+            params: params.of,
+            sig: sig.of,
+            body: body.of,
         },
         depth,
-    })
+    }
 }
 
 fn method(
@@ -72,19 +146,10 @@ fn method(
     requires { 0 < budget }
     ensures { Reads (see_deep decl_view) (spec.method_behind (budget - 1) spot (receiver_view receiver) words.old) result words.new }
 {
-    let name = words.expect_name(alloc)?;
-    let sig = signature(alloc, words, budget)?;
-    let body = body(alloc, words, budget)?;
-    Ok(Deep {
-        of: DeclTree::Method {
-            spot,
-            receiver,
-            name,
-            sig: sig.of,
-            body: body.of,
-        },
-        depth: sig.depth.max(body.depth),
-    })
+    match words.expect_name(alloc) {
+        Ok(name) => method_named(alloc, words, budget, spot, receiver, name),
+        Err(fault) => Err(fault),
+    }
 }
 
 fn func(
@@ -98,19 +163,13 @@ fn func(
     requires { 0 < budget }
     ensures { Reads (see_deep decl_view) (spec.func_behind (budget - 1) spot name (maybe_groups params.of) params.depth words.old) result words.new }
 {
-    let sig = signature(alloc, words, budget)?;
-    let body = body(alloc, words, budget)?;
-    let depth = params.depth.max(sig.depth.max(body.depth));
-    Ok(Deep {
-        of: DeclTree::Func {
-            spot,
-            name,
-            params: params.of,
-            sig: sig.of,
-            body: body.of,
+    match signature(alloc, words, budget) {
+        Ok(sig) => match body(alloc, words, budget) {
+            Ok(body) => Ok(func_of(spot, name, params, sig, body)),
+            Err(fault) => Err(fault),
         },
-        depth,
-    })
+        Err(fault) => Err(fault),
+    }
 }
 
 // A function behind its name.
@@ -129,12 +188,16 @@ fn func_named(
         let none = Deep { of: None, depth: 0 };
         return func(alloc, words, budget, spot, name, none);
     }
-    let params = type_params(alloc, words, budget)?;
-    let params = Deep {
-        of: Some(params.groups),
-        depth: params.depth,
-    };
-    func(alloc, words, budget, spot, name, params)
+    match type_params(alloc, words, budget) {
+        Ok(params) => {
+            let params = Deep {
+                of: Some(params.groups),
+                depth: params.depth,
+            };
+            func(alloc, words, budget, spot, name, params)
+        }
+        Err(fault) => Err(fault),
+    }
 }
 
 /// A function or a method, behind its keyword at the spot.

@@ -46,11 +46,14 @@ fn next_string(alloc: Global, words: &Cursor<'_>) -> Result<Option<Placed>, NoMe
 fn expect_string(alloc: Global, words: &mut Cursor<'_>) -> Result<Placed, ParseError>
     ensures { Reads (λ p. p) (spec.expect_string words.old) result words.new }
 {
-    let Some(text) = next_string(alloc, words)? else {
-        return Err(ParseError::Fault);
-    };
-    words.skip();
-    Ok(text)
+    match next_string(alloc, words) {
+        Ok(Some(text)) => {
+            words.skip();
+            Ok(text)
+        }
+        Ok(None) => Err(ParseError::Fault),
+        Err(_) => Err(ParseError::NoMemory),
+    }
 }
 
 fn imported(name: Option<Placed>, path: Placed) -> Deep<ImportSpec>
@@ -68,10 +71,10 @@ fn import_spec(alloc: Global, words: &mut Cursor<'_>) -> Result<Deep<ImportSpec>
     ensures { Reads (see_deep import_spec_view) (spec.import_spec words.old) result words.new }
 {
     match words.take_name(alloc)? {
-        Some(name) => {
-            let path = expect_string(alloc, words)?;
-            Ok(imported(Some(name), path))
-        }
+        Some(name) => match expect_string(alloc, words) {
+            Ok(path) => Ok(imported(Some(name), path)),
+            Err(fault) => Err(fault),
+        },
         None => {
             let path = expect_string(alloc, words)?;
             Ok(imported(None, path))

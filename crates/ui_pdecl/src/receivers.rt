@@ -3,13 +3,54 @@
 ghost use Rattle.ui_parse.specs.View.{Reads};
 ghost use Rattle.ui_tree.specs.StmtView.{receiver_view};
 ghost use Rattle.ui_stmts.specs.Decls as spec;
+ghost use Rattle.ui_pdecl.specs.Parts.{receiver_close, receiver_params};
 
 use std::alloc::Global;
 use ui_base::Spot;
 use ui_parse::{Cursor, ParseError};
 use ui_psimple::names;
 use ui_scan::TokenKind;
-use ui_tree::{Placed, Receiver};
+use ui_tree::{Items, Placed, Receiver};
+
+// ")"
+fn receiver_close(
+    words: &mut Cursor<'_>,
+    spot: Spot,
+    name: Option<Placed>,
+    pointer: bool,
+    of: Placed,
+    params: Option<Items<Placed>>,
+) -> Result<Receiver, ParseError>
+    ensures { Reads receiver_view (receiver_close 0 spot name pointer of params words.old) result words.new }
+{
+    match words.expect(TokenKind::RParen) {
+        Ok(_) => Ok(Receiver {
+            spot,
+            name,
+            pointer,
+            of,
+            params,
+        }),
+        Err(fault) => Err(fault),
+    }
+}
+
+// "]" ")"
+fn receiver_params(
+    words: &mut Cursor<'_>,
+    spot: Spot,
+    name: Option<Placed>,
+    pointer: bool,
+    of: Placed,
+    params: Items<Placed>,
+) -> Result<Receiver, ParseError>
+    ensures { Reads receiver_view (receiver_params 0 spot name pointer of params words.old) result words.new }
+{
+    match words.expect(TokenKind::RBracket) {
+        Ok(_) => receiver_close(words, spot, name, pointer, of, Some(params)),
+        Err(fault) => Err(fault),
+    }
+}
 
 // [ "[" Names "]" ] ")"
 #[tactic(auto, unfolding(ui_parse::specs::Reader::take_by))]
@@ -23,19 +64,13 @@ fn receiver_end(
 ) -> Result<Receiver, ParseError>
     ensures { Reads receiver_view (spec.recv_end 0 spot name pointer of words.old) result words.new }
 {
-    let mut params = None;
-    if words.take(TokenKind::LBracket).is_some() {
-        params = Some(names(alloc, words)?);
-        words.expect(TokenKind::RBracket)?;
+    match words.take(TokenKind::LBracket) {
+        Some(_) => match names(alloc, words) {
+            Ok(params) => receiver_params(words, spot, name, pointer, of, params),
+            Err(fault) => Err(fault),
+        },
+        None => receiver_close(words, spot, name, pointer, of, None),
     }
-    words.expect(TokenKind::RParen)?;
-    Ok(Receiver {
-        spot,
-        name,
-        pointer,
-        of,
-        params,
-    })
 }
 
 // A receiver's type, and what is behind it.
@@ -48,8 +83,10 @@ fn receiver_of(
 ) -> Result<Receiver, ParseError>
     ensures { Reads receiver_view (spec.recv_of 0 spot name pointer words.old) result words.new }
 {
-    let of = words.expect_name(alloc)?;
-    receiver_end(alloc, words, spot, name, pointer, of)
+    match words.expect_name(alloc) {
+        Ok(of) => receiver_end(alloc, words, spot, name, pointer, of),
+        Err(fault) => Err(fault),
+    }
 }
 
 // Behind a first name: the receiver's, or its type's.
@@ -65,9 +102,10 @@ fn receiver_named(
     if words.take(TokenKind::Mul).is_some() {
         return receiver_of(alloc, words, spot, Some(first), true);
     }
-    match words.take_name(alloc)? {
-        Some(of) => receiver_end(alloc, words, spot, Some(first), false, of),
-        None => receiver_end(alloc, words, spot, None, false, first),
+    match words.take_name(alloc) {
+        Ok(Some(of)) => receiver_end(alloc, words, spot, Some(first), false, of),
+        Ok(None) => receiver_end(alloc, words, spot, None, false, first),
+        Err(_) => Err(ParseError::NoMemory),
     }
 }
 

@@ -4,9 +4,10 @@ ghost use Rattle.std.specs.Prelude.{◌≡◌, ◌-◌, ◌<◌, IfOk};
 ghost use Rattle.ui_parse.specs.Reader as reader;
 ghost use Rattle.ui_parse.specs.View.{Reads};
 ghost use Rattle.ui_scan.specs.declared.kind.TokenKind.TheVariants.{Comma, RBracket};
-ghost use Rattle.ui_ptype.specs.Seen.{see_maybe};
+ghost use Rattle.ui_ptype.specs.Seen.{see_type, see_maybe};
 ghost use Rattle.ui_stmts.specs.Decls as spec;
-ghost use Rattle.ui_pdecl.specs.Seen.{see_type_params};
+ghost use Rattle.ui_pdecl.specs.Parts.{with_bound, param_named};
+ghost use Rattle.ui_pdecl.specs.Seen.{see_type_params, groups_seen};
 
 use crate::lengths::is_length;
 use std::alloc::Global;
@@ -39,6 +40,31 @@ impl Ends for TypeParams {
     }
 }
 
+// One more group, of these names with their bound.
+fn bounded(
+    alloc: Global,
+    groups: Items<Group<Boxed<TypeExpr>>>,
+    names: Items<Placed>,
+    depth: u32,
+    bound: TypeSub,
+) -> Result<TypeParams, NoMemory>
+    ensures { IfOk result (λ ps. see_type_params ps ≡ with_bound (groups_seen groups) names depth (see_type bound)) }
+{
+    let mut groups = groups;
+    let group = Group {
+        names,
+        of: bound.tree,
+    };
+    match groups.push(group) {
+        Ok(()) => Ok(TypeParams {
+            groups,
+            waiting: Items::new(alloc),
+            depth: depth.max(bound.depth),
+        }),
+        Err(fault) => Err(fault),
+    }
+}
+
 impl TypeParams {
     fn new(alloc: Global) -> TypeParams
         ensures { see_type_params result ≡ spec.no_type_params }
@@ -60,27 +86,21 @@ impl TypeParams {
         ensures { IfOk result (λ ps. see_type_params ps ≡ spec.add_bound (see_type_params self) name (see_maybe bound)) }
     {
         let TypeParams {
-            mut groups,
+            groups,
             mut waiting,
             depth,
         } = self;
-        waiting.push(name)?;
-        let Some(bound) = bound else {
-            return Ok(TypeParams {
-                groups,
-                waiting,
-                depth,
-            });
-        };
-        groups.push(Group {
-            names: waiting,
-            of: bound.tree,
-        })?;
-        Ok(TypeParams {
-            groups,
-            waiting: Items::new(alloc),
-            depth: depth.max(bound.depth),
-        })
+        match waiting.push(name) {
+            Ok(()) => match bound {
+                Some(bound) => bounded(alloc, groups, waiting, depth, bound),
+                None => Ok(TypeParams {
+                    groups,
+                    waiting,
+                    depth,
+                }),
+            },
+            Err(fault) => Err(fault),
+        }
     }
 }
 
@@ -104,6 +124,24 @@ fn maybe_bound(
     }
 }
 
+// The bound behind a name, or none.
+#[tactic(auto, using(crate::proofs::ParamSteps::bound_fault, crate::proofs::ParamSteps::bound_read))]
+fn param_named(
+    alloc: Global,
+    words: &mut Cursor<'_>,
+    budget: u32,
+    params: TypeParams,
+    name: Placed,
+) -> Result<TypeParams, ParseError>
+    requires { 0 < budget }
+    ensures { Reads see_type_params (param_named (budget - 1) (see_type_params params) name words.old) result words.new }
+{
+    match maybe_bound(alloc, words, budget) {
+        Ok(bound) => Ok(params.add(alloc, name, bound)?),
+        Err(fault) => Err(fault),
+    }
+}
+
 fn type_param(
     alloc: Global,
     words: &mut Cursor<'_>,
@@ -113,9 +151,10 @@ fn type_param(
     requires { 0 < budget }
     ensures { Reads see_type_params (spec.type_param (budget - 1) (see_type_params params) words.old) result words.new }
 {
-    let name = words.expect_name(alloc)?;
-    let bound = maybe_bound(alloc, words, budget)?;
-    Ok(params.add(alloc, name, bound)?)
+    match words.expect_name(alloc) {
+        Ok(name) => param_named(alloc, words, budget, params, name),
+        Err(fault) => Err(fault),
+    }
 }
 
 fn first_param(alloc: Global, words: &mut Cursor<'_>, budget: u32) -> Result<TypeParams, ParseError>
@@ -190,8 +229,10 @@ fn apart(
     if !is_length(params.groups.as_slice()) {
         return more_params(alloc, words, budget, params);
     }
-    words.expect(TokenKind::Comma)?;
-    params_behind(alloc, words, budget, params)
+    match words.expect(TokenKind::Comma) {
+        Ok(_) => params_behind(alloc, words, budget, params),
+        Err(fault) => Err(fault),
+    }
 }
 
 /// The type parameters of a type, whose text is no array's length.

@@ -1,6 +1,7 @@
 //! Type specifications. Go specification, "Type declarations".
 
-ghost use Rattle.std.specs.Prelude.{◌≡◌, ◌-◌, ◌<◌, IfOk};
+ghost use Rattle.std.specs.Prelude.{◌≡◌, ◌-◌, ◌<◌, IfOk, max};
+ghost use Rattle.ui_tree.specs.StmtView.{groups_view};
 ghost use Rattle.ui_parse.specs.Reader.{Outcome};
 ghost use Rattle.ui_parse.specs.View.{Reads};
 ghost use Rattle.ui_tree.specs.StmtView.{type_spec_view};
@@ -13,7 +14,7 @@ ghost use Rattle.ui_psimple.specs.Seen.{see_deep};
 ghost use Rattle.ui_pdecl.specs.Parts.{farther_of, bracketed, named_spec};
 
 use crate::budgets::own_type;
-use crate::type_params::type_params_apart;
+use crate::type_params::{TypeParams, type_params_apart};
 use std::alloc::Global;
 use ui_base::{NoMemory, Spot};
 use ui_parse::{Cursor, ParseError};
@@ -30,8 +31,10 @@ type SpecSub = Deep<Boxed<TypeSpec>>;
 fn spec_sub(alloc: Global, spec: TypeSpec, depth: u32) -> Result<SpecSub, NoMemory>
     ensures { IfOk result (λ s. see_deep type_spec_view s ≡ sized (type_spec_view spec) depth) }
 {
-    let of = Boxed::new(alloc, spec)?;
-    Ok(Deep { of, depth })
+    match Boxed::new(alloc, spec) {
+        Ok(of) => Ok(Deep { of, depth }),
+        Err(fault) => Err(fault),
+    }
 }
 
 // A type without parameters.
@@ -58,8 +61,10 @@ fn plain_spec(
     requires { 0 < budget }
     ensures { Reads (see_deep type_spec_view) (spec.plain_group (budget - 1) name alias words.old) result words.new }
 {
-    let of = own_type(alloc, words, budget)?;
-    Ok(spec_of(alloc, name, alias, of)?)
+    match own_type(alloc, words, budget) {
+        Ok(of) => Ok(spec_of(alloc, name, alias, of)?),
+        Err(fault) => Err(fault),
+    }
 }
 
 // A slice or an array.
@@ -73,8 +78,29 @@ fn bracketed_spec(
     requires { 0 < budget }
     ensures { Reads (see_deep type_spec_view) (spec.bracketed_group (budget - 1) name spot words.old) result words.new }
 {
-    let of = bracket_type(alloc, words, budget, TypeSite::Plain, spot)?;
-    Ok(spec_of(alloc, name, false, of)?)
+    match bracket_type(alloc, words, budget, TypeSite::Plain, spot) {
+        Ok(of) => Ok(spec_of(alloc, name, false, of)?),
+        Err(fault) => Err(fault),
+    }
+}
+
+// A type with parameters.
+fn generic_of(
+    alloc: Global,
+    name: Placed,
+    params: TypeParams,
+    of: TypeSub,
+) -> Result<SpecSub, NoMemory>
+    ensures { IfOk result (λ s. see_deep type_spec_view s ≡ sized (spec.type_group 0 name (groups_view params.groups) false (see_type of).tree) (max params.depth of.depth)) }
+{
+    let depth = params.depth.max(of.depth);
+    let spec = TypeSpec {
+        name,
+        params: params.groups,
+        alias: false,
+        of: of.tree.into_inner(),
+    };
+    spec_sub(alloc, spec, depth)
 }
 
 // Type parameters, and a type.
@@ -87,16 +113,13 @@ fn generic_spec(
     requires { 0 < budget }
     ensures { Reads (see_deep type_spec_view) (spec.generic_group (budget - 1) name words.old) result words.new }
 {
-    let params = type_params_apart(alloc, words, budget)?;
-    let of = own_type(alloc, words, budget)?;
-    let depth = params.depth.max(of.depth);
-    let spec = TypeSpec {
-        name,
-        params: params.groups,
-        alias: false,
-        of: of.tree.into_inner(),
-    };
-    Ok(spec_sub(alloc, spec, depth)?)
+    match type_params_apart(alloc, words, budget) {
+        Ok(params) => match own_type(alloc, words, budget) {
+            Ok(of) => Ok(generic_of(alloc, name, params, of)?),
+            Err(fault) => Err(fault),
+        },
+        Err(fault) => Err(fault),
+    }
 }
 
 // What went farther of two readings, the second of which left the other words; the first where both went as far.
@@ -122,10 +145,13 @@ fn farther<'a>(
 fn copy_name(alloc: Global, name: &Placed) -> Result<Placed, NoMemory>
     ensures { IfOk result (λ p. p ≡ name.now) }
 {
-    Ok(Placed {
-        spot: name.spot,
-        text: name.text.copy(alloc)?,
-    })
+    match name.text.copy(alloc) {
+        Ok(text) => Ok(Placed {
+            spot: name.spot,
+            text,
+        }),
+        Err(fault) => Err(fault),
+    }
 }
 
 // Behind a bracket: a length or parameters.
@@ -142,7 +168,9 @@ fn length_or_params(
     if budget < 2 {
         return generic_spec(alloc, words, budget, name);
     }
-    let copy = copy_name(alloc, &name)?;
+    let Ok(copy) = copy_name(alloc, &name) else {
+        return Err(ParseError::NoMemory);
+    };
     let mut other = words.fork();
     let length = bracketed_spec(alloc, words, budget, name, spot);
     let params = generic_spec(alloc, &mut other, budget, copy);

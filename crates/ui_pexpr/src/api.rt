@@ -1,10 +1,11 @@
 //! The calls of other crates: a form from the front of tokens, or where none goes on.
 
-ghost use Rattle.std.specs.Prelude.{◌≡◌, ◌+◌, ◌≤◌, ◌<◌, ◌-◌, IfOk, length, drop};
+ghost use Rattle.std.specs.Prelude.{◌≡◌, ◌+◌, ◌≤◌, ◌<◌, ◌-◌, IfOk, length, drop, nat_lt};
 ghost use Rattle.ui_grammar.specs.Parse.{HasExpr, HasType, HasSig};
 ghost use Rattle.ui_grammar.specs.Word.{words};
-ghost use Rattle.ui_pexpr.specs.Answers.{Answers, goes_farther, told_behind};
+ghost use Rattle.ui_pexpr.specs.Answers.{Answers, leads, told_behind};
 ghost use Rattle.ui_pexpr.specs.declared.fault.ParseFault.TheVariants.{NoMemory as no_memory};
+ghost use Rattle.ui_parse.specs.declared.fault.ParseError.TheVariants.{Fault as a_fault};
 ghost use Rattle.ui_pexpr.specs.Parsed.{Parsed, place};
 ghost use Rattle.ui_scan.specs.Tokens.{Tokens};
 ghost use Rattle.ui_syntax.specs.Read.{expr, type, sig as sig_of};
@@ -24,6 +25,24 @@ const DEEPEST: u32 = 200;
 
 /// How many levels more a second reading has, which tells what is too deep.
 const FURTHER_LEVELS: u32 = 4;
+
+/// A form that is read.
+#[derive(Clone, Copy)]
+pub(crate) enum Sought {
+    Expr { header: bool },
+    Type,
+    Sig,
+}
+
+// Whether a reading that ended so, with so many words left, goes farther than to so many.
+fn is_farther(end: ParseError, words: usize, left: usize) -> Result<bool, NoMemory>
+    ensures { IfOk result (λ b. (end ≡ a_fault) × (b ≡ nat_lt words left)) }
+{
+    match end {
+        ParseError::Fault => Ok(words < left),
+        ParseError::NoMemory => Err(AllocError),
+    }
+}
 
 // A file's tokens, and where reading begins.
 #[derive(Drop)]
@@ -69,22 +88,44 @@ impl<'a> Reading<'a> {
 
     // Whether a reading within this budget goes farther than to so many words that are left.
     #[tactic(auto, using(crate::proofs::Readings::farther_ok, crate::proofs::Readings::farther_fault))]
-    fn expr_goes_farther(
+    fn leads(
         &self,
         alloc: Global,
-        header: bool,
+        sought: Sought,
         budget: u32,
         left: usize,
     ) -> Result<bool, NoMemory>
         requires scanned { Tokens self.now.bytes.now self.now.tokens.now }
         requires inside { self.now.from ≤ length self.now.tokens.now }
-        ensures { IfOk result (λ b. b ≡ goes_farther (expr budget header (drop self.now.from (words self.now.bytes.now self.now.tokens.now))) left) }
+        ensures { IfOk result (λ b. b ≡ leads sought budget (drop self.now.from (words self.now.bytes.now self.now.tokens.now)) left) }
     {
         let mut words = self.start();
-        match expr_of_budget(alloc, &mut words, budget, header) {
-            Ok(_) => Ok(true),
-            Err(ParseError::Fault) => Ok(words.left() < left),
-            Err(ParseError::NoMemory) => Err(AllocError),
+        match sought {
+            Sought::Expr { header } => match expr_of_budget(alloc, &mut words, budget, header) {
+                Ok(_) => Ok(true),
+                Err(fault) => is_farther(fault, words.left(), left),
+            },
+            Sought::Type => match type_of_budget(alloc, &mut words, budget) {
+                Ok(_) => Ok(true),
+                Err(fault) => is_farther(fault, words.left(), left),
+            },
+            Sought::Sig => match sig(alloc, &mut words, budget) {
+                Ok(_) => Ok(true),
+                Err(fault) => is_farther(fault, words.left(), left),
+            },
+        }
+    }
+
+    // The fault where a reading within the budget ended with so many words left.
+    fn fault_of(&self, alloc: Global, sought: Sought, budget: u32, left: usize) -> ParseFault
+        requires scanned { Tokens self.now.bytes.now self.now.tokens.now }
+        requires inside { self.now.from ≤ length self.now.tokens.now }
+        requires room { budget ≤ 200 }
+        ensures { (result ≡ no_memory → ⊥) → result ≡ told_behind self.now.bytes.now self.now.tokens.now self.now.from (length self.now.tokens.now - left - self.now.from) (leads sought (budget + 4) (drop self.now.from (words self.now.bytes.now self.now.tokens.now)) left) }
+    {
+        match self.leads(alloc, sought, budget + FURTHER_LEVELS, left) {
+            Ok(deep) => self.fault(alloc, left, deep),
+            Err(_) => ParseFault::NoMemory,
         }
     }
 
@@ -103,34 +144,9 @@ impl<'a> Reading<'a> {
         match expr_of_budget(alloc, &mut words, budget, header) {
             Ok(found) => Ok((found.tree.into_inner(), self.end(words.left()))),
             Err(ParseError::NoMemory) => Err(ParseFault::NoMemory),
-            Err(ParseError::Fault) => match self.expr_goes_farther(
-                alloc,
-                header,
-                budget + FURTHER_LEVELS,
-                words.left(),
-            ) {
-                Ok(deep) => Err(self.fault(alloc, words.left(), deep)),
-                Err(_) => Err(ParseFault::NoMemory),
-            },
-        }
-    }
-
-    #[tactic(auto, using(crate::proofs::Readings::farther_ok, crate::proofs::Readings::farther_fault))]
-    fn type_expr_goes_farther(
-        &self,
-        alloc: Global,
-        budget: u32,
-        left: usize,
-    ) -> Result<bool, NoMemory>
-        requires scanned { Tokens self.now.bytes.now self.now.tokens.now }
-        requires inside { self.now.from ≤ length self.now.tokens.now }
-        ensures { IfOk result (λ b. b ≡ goes_farther (type budget (drop self.now.from (words self.now.bytes.now self.now.tokens.now))) left) }
-    {
-        let mut words = self.start();
-        match type_of_budget(alloc, &mut words, budget) {
-            Ok(_) => Ok(true),
-            Err(ParseError::Fault) => Ok(words.left() < left),
-            Err(ParseError::NoMemory) => Err(AllocError),
+            Err(ParseError::Fault) => {
+                Err(self.fault_of(alloc, Sought::Expr { header }, budget, words.left()))
+            }
         }
     }
 
@@ -144,33 +160,9 @@ impl<'a> Reading<'a> {
         match type_of_budget(alloc, &mut words, budget) {
             Ok(found) => Ok((found.tree.into_inner(), self.end(words.left()))),
             Err(ParseError::NoMemory) => Err(ParseFault::NoMemory),
-            Err(ParseError::Fault) => match self.type_expr_goes_farther(
-                alloc,
-                budget + FURTHER_LEVELS,
-                words.left(),
-            ) {
-                Ok(deep) => Err(self.fault(alloc, words.left(), deep)),
-                Err(_) => Err(ParseFault::NoMemory),
-            },
-        }
-    }
-
-    #[tactic(auto, using(crate::proofs::Readings::farther_ok, crate::proofs::Readings::farther_fault))]
-    fn sig_expr_goes_farther(
-        &self,
-        alloc: Global,
-        budget: u32,
-        left: usize,
-    ) -> Result<bool, NoMemory>
-        requires scanned { Tokens self.now.bytes.now self.now.tokens.now }
-        requires inside { self.now.from ≤ length self.now.tokens.now }
-        ensures { IfOk result (λ b. b ≡ goes_farther (sig_of budget (drop self.now.from (words self.now.bytes.now self.now.tokens.now))) left) }
-    {
-        let mut words = self.start();
-        match sig(alloc, &mut words, budget) {
-            Ok(_) => Ok(true),
-            Err(ParseError::Fault) => Ok(words.left() < left),
-            Err(ParseError::NoMemory) => Err(AllocError),
+            Err(ParseError::Fault) => {
+                Err(self.fault_of(alloc, Sought::Type, budget, words.left()))
+            }
         }
     }
 
@@ -184,14 +176,9 @@ impl<'a> Reading<'a> {
         match sig(alloc, &mut words, budget) {
             Ok(found) => Ok((found.tree.into_inner(), self.end(words.left()))),
             Err(ParseError::NoMemory) => Err(ParseFault::NoMemory),
-            Err(ParseError::Fault) => match self.sig_expr_goes_farther(
-                alloc,
-                budget + FURTHER_LEVELS,
-                words.left(),
-            ) {
-                Ok(deep) => Err(self.fault(alloc, words.left(), deep)),
-                Err(_) => Err(ParseFault::NoMemory),
-            },
+            Err(ParseError::Fault) => {
+                Err(self.fault_of(alloc, Sought::Sig, budget, words.left()))
+            }
         }
     }
 }

@@ -89,3 +89,13 @@ pub fn told(deep: bool, form: Option<Form>, at: usize) -> ParseFault
         None => ParseFault::Unexpected { at },
     }
 }
+
+/// The kind of the first of these tokens.
+pub fn first_kind(tokens: &[Token]) -> Option<TokenKind>
+    ensures { result ≡ spec.first_kind tokens.now }
+{
+    match tokens {
+        [] => None,
+        [first, ..] => Some(first.kind),
+    }
+}

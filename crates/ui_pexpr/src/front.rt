@@ -12,22 +12,13 @@ ghost use Rattle.ui_pexpr.specs.Faults.{front_of};
 ghost use Rattle.ui_pexpr.specs.Forms as spec;
 
 use crate::back::{before_last, ends_in, opening};
-use crate::fault::{Form, ParseFault, first_offset, form_if, form_of, told};
+use crate::fault::{Form, ParseFault, first_kind, first_offset, form_if, form_of, told};
 use std::alloc::{AllocError, Global};
 use ui_base::NoMemory;
 use ui_parse::{Cursor, ParseError};
 use ui_pread::type_of_budget;
 use ui_ptype::{TypeSub, name_list};
 use ui_scan::{Token, TokenKind};
-
-fn first_kind(tokens: &[Token]) -> Option<TokenKind>
-    ensures { result ≡ faults.first_kind tokens.now }
-{
-    match tokens {
-        [] => None,
-        [first, ..] => Some(first.kind),
-    }
-}
 
 fn in_struct(bracket: &[Token]) -> bool
     ensures { (bytes : List ℕ) → result ≡ spec.in_struct (back_of bytes bracket.now) }

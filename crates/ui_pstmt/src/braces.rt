@@ -10,6 +10,9 @@ ghost use Rattle.ui_pstmt.specs.Nests.{Nests};
 ghost use Rattle.ui_psimple.specs.Seen.{see_stmt};
 ghost use Rattle.ui_pstmt.specs.Seen.{see_stmts, see_block, see_body_turn};
 ghost use Rattle.ui_pstmt.specs.Turns as turns;
+ghost use Rattle.ui_psimple.specs.Parts.{no_statement};
+ghost use Rattle.ui_stmts.specs.Common.{sized};
+ghost use Rattle.ui_tree.specs.Stmt.{block};
 
 use crate::grammar::{Begun, Statements};
 use std::alloc::Global;
@@ -38,11 +41,43 @@ fn add_stmt(all: StmtSubs, stmt: StmtSub) -> Result<StmtSubs, NoMemory>
     all.add(stmt.of.into_inner(), stmt.depth)
 }
 
+// One more statement without words.
+fn add_empty(alloc: Global, all: StmtSubs) -> Result<StmtSubs, NoMemory>
+    ensures { IfOk result (λ l. see_stmts l ≡ turns.added (see_stmts all) no_statement) }
+{
+    match empty_stmt(alloc) {
+        Ok(empty) => add_stmt(all, empty),
+        Err(fault) => Err(fault),
+    }
+}
+
+// The statement of a block.
+#[tactic(auto, using(ui_psimple::specs::StmtViews::view_Block))]
+fn block_over(alloc: Global, body: BlockSub) -> Result<StmtSub, NoMemory>
+    ensures { IfOk result (λ s. see_stmt s ≡ sized (block (see_block body).of) (suc body.depth)) }
+{
+    stmt_over(alloc, StmtTree::Block(body.of), body.depth)
+}
+
 impl<F> Statements<F>
 where
     F: Fn(Global, &mut Cursor<'_>, u32, Begun) -> Result<StmtSub, ParseError>,
 {
-    // Behind a statement, or none: a semicolon, which may be left out before the brace where there are words.
+    // Behind a statement with words: a semicolon, which may be left out before the brace.
+    #[tactic(auto, unfolding(ui_parse::specs::Reader::take_by))]
+    fn behind_words(&self, words: &mut Cursor<'_>, all: StmtSubs) -> Result<BodyTurn, ParseError>
+        ensures { Reads (see_body_turn self.now.room (stmt_readers self.now.room)) (turns.behind_words self.now.room (stmt_readers self.now.room) (see_stmts all) words.old) result words.new }
+    {
+        if words.take(TokenKind::Semi).is_some() {
+            return Ok(BodyTurn::More(all));
+        }
+        match words.expect(TokenKind::RBrace) {
+            Ok(close) => Ok(BodyTurn::Closed { all, close }),
+            Err(fault) => Err(fault),
+        }
+    }
+
+    // Behind a statement, or none, where a semicolon has to come.
     #[tactic(auto, unfolding(ui_parse::specs::Reader::take_by))]
     fn behind_stmt(
         &self,
@@ -52,19 +87,19 @@ where
     ) -> Result<BodyTurn, ParseError>
         ensures { Reads (see_body_turn self.now.room (stmt_readers self.now.room)) (turns.behind_stmt self.now.room (stmt_readers self.now.room) (see_stmts all) (option_map see_stmt stmt) words.old) result words.new }
     {
-        let Some(stmt) = stmt else {
-            if words.take(TokenKind::Semi).is_none() {
-                return Err(ParseError::Fault);
-            }
-            let empty = empty_stmt(self.alloc)?;
-            return Ok(BodyTurn::More(add_stmt(all, empty)?));
-        };
-        let all = add_stmt(all, stmt)?;
-        if words.take(TokenKind::Semi).is_some() {
-            return Ok(BodyTurn::More(all));
+        if let Some(stmt) = stmt {
+            return match add_stmt(all, stmt) {
+                Ok(all) => self.behind_words(words, all),
+                Err(_) => Err(ParseError::NoMemory),
+            };
         }
-        let close = words.expect(TokenKind::RBrace)?;
-        Ok(BodyTurn::Closed { all, close })
+        if words.take(TokenKind::Semi).is_none() {
+            return Err(ParseError::Fault);
+        }
+        match add_empty(self.alloc, all) {
+            Ok(all) => Ok(BodyTurn::More(all)),
+            Err(_) => Err(ParseError::NoMemory),
+        }
     }
 
     // The brace, or a statement and what is behind it.
@@ -79,8 +114,10 @@ where
         if self.room == 0 {
             return Err(ParseError::Fault);
         }
-        let stmt = self.maybe_inner(words)?;
-        self.behind_stmt(words, all, stmt)
+        match self.maybe_inner(words) {
+            Ok(stmt) => self.behind_stmt(words, all, stmt),
+            Err(fault) => Err(fault),
+        }
     }
 
     /// Statements behind the brace at the spot, up to the closing one.
@@ -92,9 +129,10 @@ where
         // Each turn takes a word.
         let mut turns = words.left();
         loop {
-            match self.body_turn(words, all)? {
-                BodyTurn::Closed { all: last, close } => return Ok(block_of(spot, last, close)),
-                BodyTurn::More(next) => all = next,
+            match self.body_turn(words, all) {
+                Ok(BodyTurn::Closed { all: last, close }) => return Ok(block_of(spot, last, close)),
+                Ok(BodyTurn::More(next)) => all = next,
+                Err(fault) => return Err(fault),
             }
             if turns == 0 {
                 return Err(ParseError::Fault);
@@ -114,7 +152,7 @@ where
     }
 
     /// A block behind its brace, as a statement.
-    #[tactic(auto, using(ui_psimple::specs::StmtViews::view_Block), unfolding(ui_stmts::specs::Stmts::block_stmt))]
+    #[tactic(auto, unfolding(ui_stmts::specs::Stmts::block_stmt))]
     pub(crate) fn block_stmt(
         &self,
         words: &mut Cursor<'_>,
@@ -123,8 +161,10 @@ where
         requires { Nests self.now.room (F.pre self.now.nested) (F.post self.now.nested) }
         ensures { Reads see_stmt (spec.block_stmt self.now.room (stmt_readers self.now.room) spot words.old) result words.new }
     {
-        let body = self.body(words, spot)?;
-        Ok(stmt_over(self.alloc, StmtTree::Block(body.of), body.depth)?)
+        match self.body(words, spot) {
+            Ok(body) => Ok(block_over(self.alloc, body)?),
+            Err(fault) => Err(fault),
+        }
     }
 }
 

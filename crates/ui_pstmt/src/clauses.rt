@@ -8,6 +8,8 @@ ghost use Rattle.ui_stmts.specs.Stmts as spec;
 ghost use Rattle.ui_stmts.specs.Stmts.{stmt_readers};
 ghost use Rattle.ui_pstmt.specs.Nests.{Nests};
 ghost use Rattle.ui_psimple.specs.Seen.{see_stmt};
+ghost use Rattle.ui_psimple.specs.Parts.{no_statement};
+ghost use Rattle.ui_ptype.specs.Seen.{see_all};
 ghost use Rattle.ui_pstmt.specs.Seen.{see_open, see_clauses, see_clause_list, see_clause_turn};
 ghost use Rattle.ui_pstmt.specs.Turns as turns;
 
@@ -16,6 +18,7 @@ use std::alloc::Global;
 use ui_base::{NoMemory, Spot};
 use ui_parse::{Cursor, ParseError, Turn};
 use ui_psimple::{Deep, StmtSub, empty_stmt, exprs};
+use ui_ptype::Subs;
 use ui_scan::TokenKind;
 use ui_tree::{Clause, ExprTree, Items, StmtTree};
 
@@ -39,10 +42,10 @@ fn with_last(
 {
     let mut closed = closed;
     match last {
-        Some(last) => {
-            closed.push(last)?;
-            Ok(closed)
-        }
+        Some(last) => match closed.push(last) {
+            Ok(()) => Ok(closed),
+            Err(fault) => Err(fault),
+        },
         None => Ok(closed),
     }
 }
@@ -61,14 +64,14 @@ fn into_last(
                 values,
                 mut stmts,
             },
-        ) => {
-            stmts.push(stmt)?;
-            Ok(Some(Clause {
+        ) => match stmts.push(stmt) {
+            Ok(()) => Ok(Some(Clause {
                 spot,
                 values,
                 stmts,
-            }))
-        }
+            })),
+            Err(fault) => Err(fault),
+        },
         None => Ok(None),
     }
 }
@@ -105,16 +108,18 @@ impl Clauses {
             last,
             depth: deepest,
         } = self;
-        let closed = with_last(closed, last)?;
-        Ok(Clauses {
-            closed,
-            last: Some(Clause {
-                spot,
-                values,
-                stmts: Items::new(alloc),
+        match with_last(closed, last) {
+            Ok(closed) => Ok(Clauses {
+                closed,
+                last: Some(Clause {
+                    spot,
+                    values,
+                    stmts: Items::new(alloc),
+                }),
+                depth: deepest.max(depth),
             }),
-            depth: deepest.max(depth),
-        })
+            Err(fault) => Err(fault),
+        }
     }
 
     fn add_stmt(self, stmt: StmtSub) -> Result<Clauses, NoMemory>
@@ -125,12 +130,25 @@ impl Clauses {
             last,
             depth: deepest,
         } = self;
-        let last = into_last(last, stmt.of.into_inner())?;
-        Ok(Clauses {
-            closed,
-            last,
-            depth: deepest.max(stmt.depth),
-        })
+        let depth = deepest.max(stmt.depth);
+        match into_last(last, stmt.of.into_inner()) {
+            Ok(last) => Ok(Clauses {
+                closed,
+                last,
+                depth,
+            }),
+            Err(fault) => Err(fault),
+        }
+    }
+
+    // One more statement without words.
+    fn add_empty(self, alloc: Global) -> Result<Clauses, NoMemory>
+        ensures { IfOk result (λ b. see_clauses b ≡ turns.added_in (see_clauses self) no_statement) }
+    {
+        match empty_stmt(alloc) {
+            Ok(empty) => self.add_stmt(empty),
+            Err(fault) => Err(fault),
+        }
     }
 
     // All of them, at the closing brace.
@@ -143,8 +161,77 @@ impl Clauses {
             last,
             depth,
         } = self;
-        let of = with_last(closed, last)?;
-        Ok(Deep { of, depth })
+        match with_last(closed, last) {
+            Ok(of) => Ok(Deep { of, depth }),
+            Err(fault) => Err(fault),
+        }
+    }
+}
+
+// Behind a statement with words: a semicolon, which may be left out before the brace.
+#[tactic(auto, unfolding(ui_parse::specs::Reader::take_by))]
+fn behind_words(words: &mut Cursor<'_>, clauses: Clauses) -> Result<Turn<Clauses>, ParseError>
+    ensures { Reads see_clause_turn (turns.behind_clause_words (see_clauses clauses) words.old) result words.new }
+{
+    if words.take(TokenKind::Semi).is_some() {
+        return Ok(Turn::More(clauses));
+    }
+    match words.expect(TokenKind::RBrace) {
+        Ok(_) => Ok(Turn::Done(clauses)),
+        Err(fault) => Err(fault),
+    }
+}
+
+// Behind `default` at the spot.
+fn opened_default(
+    alloc: Global,
+    words: &mut Cursor<'_>,
+    clauses: Clauses,
+    spot: Spot,
+) -> Result<Turn<Clauses>, ParseError>
+    ensures { Reads see_clause_turn (turns.default_opened (see_clauses clauses) spot words.old) result words.new }
+{
+    match words.expect(TokenKind::Colon) {
+        Ok(_) => match clauses.open_clause(alloc, spot, None, 0) {
+            Ok(clauses) => Ok(Turn::More(clauses)),
+            Err(_) => Err(ParseError::NoMemory),
+        },
+        Err(fault) => Err(fault),
+    }
+}
+
+// The colon behind the values of a case.
+fn opened_values(
+    alloc: Global,
+    words: &mut Cursor<'_>,
+    clauses: Clauses,
+    spot: Spot,
+    values: Subs,
+) -> Result<Turn<Clauses>, ParseError>
+    ensures { Reads see_clause_turn (turns.values_opened (see_clauses clauses) spot (see_all values) words.old) result words.new }
+{
+    match words.expect(TokenKind::Colon) {
+        Ok(_) => match clauses.open_clause(alloc, spot, Some(values.items), values.depth) {
+            Ok(clauses) => Ok(Turn::More(clauses)),
+            Err(_) => Err(ParseError::NoMemory),
+        },
+        Err(fault) => Err(fault),
+    }
+}
+
+// Behind `case` at the spot.
+fn opened_case(
+    alloc: Global,
+    words: &mut Cursor<'_>,
+    room: u32,
+    clauses: Clauses,
+    spot: Spot,
+) -> Result<Turn<Clauses>, ParseError>
+    ensures { Reads see_clause_turn (turns.case_opened room (see_clauses clauses) spot words.old) result words.new }
+{
+    match exprs(alloc, words, room, false) {
+        Ok(values) => opened_values(alloc, words, clauses, spot, values),
+        Err(fault) => Err(fault),
     }
 }
 
@@ -152,7 +239,7 @@ impl<F> Statements<F>
 where
     F: Fn(Global, &mut Cursor<'_>, u32, Begun) -> Result<StmtSub, ParseError>,
 {
-    // Behind a statement, or none: a semicolon, which may be left out before the brace where there are words.
+    // Behind a statement, or none, where a semicolon has to come.
     #[tactic(auto, unfolding(ui_parse::specs::Reader::take_by))]
     fn behind_clause_stmt(
         &self,
@@ -162,19 +249,19 @@ where
     ) -> Result<Turn<Clauses>, ParseError>
         ensures { Reads see_clause_turn (turns.behind_clause_stmt self.now.room (stmt_readers self.now.room) (see_clauses clauses) (option_map see_stmt stmt) words.old) result words.new }
     {
-        let Some(stmt) = stmt else {
-            if words.take(TokenKind::Semi).is_none() {
-                return Err(ParseError::Fault);
-            }
-            let empty = empty_stmt(self.alloc)?;
-            return Ok(Turn::More(clauses.add_stmt(empty)?));
-        };
-        let clauses = clauses.add_stmt(stmt)?;
-        if words.take(TokenKind::Semi).is_some() {
-            return Ok(Turn::More(clauses));
+        if let Some(stmt) = stmt {
+            return match clauses.add_stmt(stmt) {
+                Ok(clauses) => behind_words(words, clauses),
+                Err(_) => Err(ParseError::NoMemory),
+            };
         }
-        words.expect(TokenKind::RBrace)?;
-        Ok(Turn::Done(clauses))
+        if words.take(TokenKind::Semi).is_none() {
+            return Err(ParseError::Fault);
+        }
+        match clauses.add_empty(self.alloc) {
+            Ok(clauses) => Ok(Turn::More(clauses)),
+            Err(_) => Err(ParseError::NoMemory),
+        }
     }
 
     // A statement of the last clause, and what is behind it.
@@ -190,8 +277,10 @@ where
         if !clauses.is_open() || self.room == 0 {
             return Err(ParseError::Fault);
         }
-        let stmt = self.maybe_inner(words)?;
-        self.behind_clause_stmt(words, clauses, stmt)
+        match self.maybe_inner(words) {
+            Ok(stmt) => self.behind_clause_stmt(words, clauses, stmt),
+            Err(fault) => Err(fault),
+        }
     }
 
     // `default`, or a statement.
@@ -204,11 +293,10 @@ where
         requires { Nests self.now.room (F.pre self.now.nested) (F.post self.now.nested) }
         ensures { Reads see_clause_turn (turns.default_part self.now.room (stmt_readers self.now.room) (see_clauses clauses) words.old) result words.new }
     {
-        let Some(spot) = words.take(TokenKind::Default) else {
-            return self.clause_stmt(words, clauses);
-        };
-        words.expect(TokenKind::Colon)?;
-        Ok(Turn::More(clauses.open_clause(self.alloc, spot, None, 0)?))
+        match words.take(TokenKind::Default) {
+            Some(spot) => opened_default(self.alloc, words, clauses, spot),
+            None => self.clause_stmt(words, clauses),
+        }
     }
 
     // `case`, or `default` or a statement.
@@ -224,13 +312,10 @@ where
         if self.room == 0 {
             return self.default_clause(words, clauses);
         }
-        let Some(spot) = words.take(TokenKind::Case) else {
-            return self.default_clause(words, clauses);
-        };
-        let values = exprs(self.alloc, words, self.room, false)?;
-        words.expect(TokenKind::Colon)?;
-        let clauses = clauses.open_clause(self.alloc, spot, Some(values.items), values.depth)?;
-        Ok(Turn::More(clauses))
+        match words.take(TokenKind::Case) {
+            Some(spot) => opened_case(self.alloc, words, self.room, clauses, spot),
+            None => self.default_clause(words, clauses),
+        }
     }
 
     // The brace, or a part of the clauses.
@@ -258,9 +343,10 @@ where
         // Each turn takes a word.
         let mut turns = words.left();
         loop {
-            match self.clause_turn(words, clauses)? {
-                Turn::Done(last) => return Ok(last),
-                Turn::More(next) => clauses = next,
+            match self.clause_turn(words, clauses) {
+                Ok(Turn::Done(last)) => return Ok(last),
+                Ok(Turn::More(next)) => clauses = next,
+                Err(fault) => return Err(fault),
             }
             if turns == 0 {
                 return Err(ParseError::Fault);
@@ -275,7 +361,9 @@ where
         requires { Nests self.now.room (F.pre self.now.nested) (F.post self.now.nested) }
         ensures { Reads see_clause_list (spec.clauses self.now.room (stmt_readers self.now.room) words.old) result words.new }
     {
-        let clauses = self.all_clauses(words)?;
-        Ok(clauses.into_list()?)
+        match self.all_clauses(words) {
+            Ok(clauses) => Ok(clauses.into_list()?),
+            Err(fault) => Err(fault),
+        }
     }
 }

@@ -33,8 +33,10 @@ where
     pub(crate) fn empty_init(&self) -> Result<Init, NoMemory>
         ensures { IfOk result (λ i. see_init self.now.room (stmt_readers self.now.room) i ≡ spec.empty_init self.now.room (stmt_readers self.now.room)) }
     {
-        let stmt = empty_stmt(self.alloc)?;
-        Ok(self.init_of(stmt))
+        match empty_stmt(self.alloc) {
+            Ok(stmt) => Ok(self.init_of(stmt)),
+            Err(fault) => Err(fault),
+        }
     }
 
     /// A statement.
@@ -51,7 +53,9 @@ where
     pub(crate) fn alone_init(&self, of: Sub) -> Result<Init, NoMemory>
         ensures { IfOk result (λ i. see_init self.now.room (stmt_readers self.now.room) i ≡ spec.alone_init self.now.room (stmt_readers self.now.room) (see of)) }
     {
-        let stmt = alone(self.alloc, of)?;
-        Ok(self.init_of(stmt))
+        match alone(self.alloc, of) {
+            Ok(stmt) => Ok(self.init_of(stmt)),
+            Err(fault) => Err(fault),
+        }
     }
 }

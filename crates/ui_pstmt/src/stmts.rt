@@ -1,10 +1,13 @@
 //! Statements, by their first word. Go specification, "Statements".
 
-ghost use Rattle.std.specs.Prelude.{◌≡◌, IfOk};
+ghost use Rattle.std.specs.Prelude.{◌≡◌, IfOk, suc};
 ghost use Rattle.std.specs.Option.{option_map};
 ghost use Rattle.ui_parse.specs.View.{Reads};
 ghost use Rattle.ui_ptype.specs.Seen.{see_all};
 ghost use Rattle.ui_tree.specs.StmtView.{common_view};
+ghost use Rattle.ui_tree.specs.Stmt as plain;
+ghost use Rattle.ui_tree.specs.View.{trees};
+ghost use Rattle.ui_stmts.specs.Common.{sized};
 ghost use Rattle.ui_stmts.specs.Stmts as spec;
 ghost use Rattle.ui_stmts.specs.Stmts.{stmt_readers, next_stmt};
 ghost use Rattle.ui_pstmt.specs.Nests.{Nests, stmt_in};
@@ -22,62 +25,93 @@ use ui_ptype::Subs;
 use ui_scan::TokenKind;
 use ui_tree::{CommonTree, StmtTree};
 
+#[tactic(auto, using(ui_psimple::specs::StmtViews::view_Return))]
+fn return_over(alloc: Global, spot: Spot, values: Subs) -> Result<StmtSub, NoMemory>
+    ensures { IfOk result (λ s. see_stmt s ≡ sized (plain.returning spot (plain.given_trees (trees (see_all values).items))) (suc values.depth)) }
+{
+    let depth = values.depth;
+    let tree = StmtTree::Return {
+        spot,
+        values: Some(values.items),
+    };
+    stmt_over(alloc, tree, depth)
+}
+
+#[tactic(auto, using(ui_psimple::specs::StmtViews::view_Return))]
+fn return_alone(alloc: Global, spot: Spot) -> Result<StmtSub, NoMemory>
+    ensures { IfOk result (λ s. see_stmt s ≡ sized (plain.returning spot plain.no_trees) 1) }
+{
+    stmt_over(alloc, StmtTree::Return { spot, values: None }, 0)
+}
+
+fn maybe_exprs(alloc: Global, words: &mut Cursor<'_>, room: u32) -> Result<Option<Subs>, ParseError>
+    ensures { Reads (option_map see_all) (parts.maybe_exprs room words.old) result words.new }
+{
+    let start = words.fork();
+    let read = exprs(alloc, words, room, false);
+    or_none(words, start, read)
+}
+
+// Behind `return`.
+fn return_stmt(
+    alloc: Global,
+    words: &mut Cursor<'_>,
+    room: u32,
+    spot: Spot,
+) -> Result<StmtSub, ParseError>
+    ensures { Reads see_stmt (parts.return_stmt room (stmt_readers room) spot words.old) result words.new }
+{
+    match maybe_exprs(alloc, words, room) {
+        Ok(Some(values)) => Ok(return_over(alloc, spot, values)?),
+        Ok(None) => Ok(return_alone(alloc, spot)?),
+        Err(fault) => Err(fault),
+    }
+}
+
+#[tactic(auto, using(ui_psimple::specs::StmtViews::view_Common))]
+fn common_over(alloc: Global, of: Deep<CommonTree>) -> Result<StmtSub, NoMemory>
+    ensures { IfOk result (λ s. see_stmt s ≡ sized (plain.common (see_deep common_view of).of) (suc of.depth)) }
+{
+    stmt_over(alloc, StmtTree::Common(of.of), of.depth)
+}
+
+// Constants, or a simple statement.
+#[tactic(auto, unfolding(ui_parse::specs::Reader::take_by))]
+fn constant_or_simple(
+    alloc: Global,
+    words: &mut Cursor<'_>,
+    room: u32,
+) -> Result<StmtSub, ParseError>
+    ensures { Reads see_stmt (parts.constant_or_simple room (stmt_readers room) words.old) result words.new }
+{
+    match words.take(TokenKind::Const) {
+        Some(spot) => match constant_decl(alloc, words, room, spot) {
+            Ok(specs) => Ok(common_over(alloc, specs)?),
+            Err(fault) => Err(fault),
+        },
+        None => simple_stmt(alloc, words, room, false),
+    }
+}
+
+// Variables, behind the keyword at the spot.
+fn variables(
+    alloc: Global,
+    words: &mut Cursor<'_>,
+    room: u32,
+    spot: Spot,
+) -> Result<StmtSub, ParseError>
+    ensures { Reads see_stmt (parts.variables room (stmt_readers room) spot words.old) result words.new }
+{
+    match variable_decl(alloc, words, room, spot) {
+        Ok(specs) => Ok(common_over(alloc, specs)?),
+        Err(fault) => Err(fault),
+    }
+}
+
 impl<F> Statements<F>
 where
     F: Fn(Global, &mut Cursor<'_>, u32, Begun) -> Result<StmtSub, ParseError>,
 {
-    #[tactic(auto, using(ui_psimple::specs::StmtViews::view_Return))]
-    fn return_of(&self, spot: Spot, values: Option<Subs>) -> Result<StmtSub, NoMemory>
-        ensures { IfOk result (λ s. see_stmt s ≡ spec.return_of self.now.room (stmt_readers self.now.room) spot (option_map see_all values)) }
-    {
-        match values {
-            Some(values) => {
-                let depth = values.depth;
-                let tree = StmtTree::Return {
-                    spot,
-                    values: Some(values.items),
-                };
-                stmt_over(self.alloc, tree, depth)
-            }
-            None => stmt_over(self.alloc, StmtTree::Return { spot, values: None }, 0),
-        }
-    }
-
-    fn maybe_exprs(&self, words: &mut Cursor<'_>) -> Result<Option<Subs>, ParseError>
-        ensures { Reads (option_map see_all) (parts.maybe_exprs self.now.room words.old) result words.new }
-    {
-        let start = words.fork();
-        let read = exprs(self.alloc, words, self.room, false);
-        or_none(words, start, read)
-    }
-
-    // Behind `return`.
-    fn return_stmt(&self, words: &mut Cursor<'_>, spot: Spot) -> Result<StmtSub, ParseError>
-        ensures { Reads see_stmt (parts.return_stmt self.now.room (stmt_readers self.now.room) spot words.old) result words.new }
-    {
-        let values = self.maybe_exprs(words)?;
-        Ok(self.return_of(spot, values)?)
-    }
-
-    #[tactic(auto, using(ui_psimple::specs::StmtViews::view_Common))]
-    fn common_of(&self, of: Deep<CommonTree>) -> Result<StmtSub, NoMemory>
-        ensures { IfOk result (λ s. see_stmt s ≡ spec.common_of self.now.room (stmt_readers self.now.room) (see_deep common_view of)) }
-    {
-        stmt_over(self.alloc, StmtTree::Common(of.of), of.depth)
-    }
-
-    // Constants, or a simple statement.
-    #[tactic(auto, unfolding(ui_parse::specs::Reader::take_by))]
-    fn constant_or_simple(&self, words: &mut Cursor<'_>) -> Result<StmtSub, ParseError>
-        ensures { Reads see_stmt (parts.constant_or_simple self.now.room (stmt_readers self.now.room) words.old) result words.new }
-    {
-        let Some(spot) = words.take(TokenKind::Const) else {
-            return simple_stmt(self.alloc, words, self.room, false);
-        };
-        let specs = constant_decl(self.alloc, words, self.room, spot)?;
-        Ok(self.common_of(specs)?)
-    }
-
     // A statement whose first word is none of those that need room.
     #[tactic(auto, using(ui_psimple::specs::StmtViews::view_Break, ui_psimple::specs::StmtViews::view_Continue), unfolding(ui_parse::specs::Reader::take_by))]
     fn plain_stmt(&self, words: &mut Cursor<'_>) -> Result<StmtSub, ParseError>
@@ -85,7 +119,7 @@ where
         ensures { Reads see_stmt (spec.plain_stmt self.now.room (stmt_readers self.now.room) words.old) result words.new }
     {
         if let Some(spot) = words.take(TokenKind::Return) {
-            return self.return_stmt(words, spot);
+            return return_stmt(self.alloc, words, self.room, spot);
         }
         if let Some(spot) = words.take(TokenKind::Break) {
             return Ok(stmt_over(self.alloc, StmtTree::Break { spot }, 0)?);
@@ -98,7 +132,7 @@ where
         }
         match words.take(TokenKind::Switch) {
             Some(spot) => self.switch_stmt(words, spot),
-            None => self.constant_or_simple(words),
+            None => constant_or_simple(self.alloc, words, self.room),
         }
     }
 
@@ -125,11 +159,10 @@ where
         if let Some(spot) = words.take(TokenKind::LBrace) {
             return self.block_stmt(words, spot);
         }
-        let Some(spot) = words.take(TokenKind::Var) else {
-            return self.branch_or_plain(words);
-        };
-        let specs = variable_decl(self.alloc, words, self.room, spot)?;
-        Ok(self.common_of(specs)?)
+        match words.take(TokenKind::Var) {
+            Some(spot) => variables(self.alloc, words, self.room, spot),
+            None => self.branch_or_plain(words),
+        }
     }
 
     /// A statement of which so much has been taken.

@@ -14,7 +14,7 @@ use ui_base::{CheckFault, FaultKind};
 const COUNT_LIMIT: usize = 256;
 
 /// The most bytes of a package's sources together.
-const PACKAGE_LIMIT: usize = 16777216;
+const BYTES_LIMIT: usize = 16777216;
 
 // Finds that no source is too long.
 fn measure(alloc: Global, sources: &[Source]) -> Result<(), CheckFault>
@@ -36,7 +36,7 @@ fn size_within(sources: &[Source]) -> Option<usize>
     if sources.len() > COUNT_LIMIT {
         return None;
     }
-    let mut room = PACKAGE_LIMIT;
+    let mut room = BYTES_LIMIT;
     for source in sources {
         let count = source.bytes().len();
         if count > room {
@@ -44,7 +44,7 @@ fn size_within(sources: &[Source]) -> Option<usize>
         }
         room -= count;
     }
-    Some(PACKAGE_LIMIT - room)
+    Some(BYTES_LIMIT - room)
 }
 
 // The name of the first source.
