@@ -3,7 +3,9 @@
 
 For each input, at a quarter of its size and at the whole: the best wall time of some runs, MB/s,
 seconds a package, peak memory as a multiple of the sources, and how time and memory grow for each
-doubling. Go's parser reads the same files in one process; `go build` starts with an empty cache.
+doubling of the bytes that are read and written: in a chain each linked file lists all packages
+before it, so what is written grows faster than the sources. Go's parser reads the same files in one
+process; `go build` starts with an empty cache.
 Nothing here is proved: it is measured.
 """
 import argparse
@@ -96,7 +98,10 @@ def emptied(folder, *names):
 
 
 def best_build(program, folder, path, runs):
-    """The least seconds and the peak memory of a build from sources alone, and how it ended."""
+    """The least seconds and the peak memory of a build from sources alone, and how it ended.
+
+    The files that it wrote stay.
+    """
     words, found = [program, "build", path], []
     for _ in range(runs):
         emptied(folder, "unit", "lib")
@@ -139,13 +144,14 @@ def build_seconds(folder, path):
         return timed(["go", "build", path], folder, go_env(folder, cache))
 
 
-def sources(folder):
-    """How many packages the sources are, and how many bytes."""
-    packages, size = 0, 0
-    for at, _, names in os.walk(os.path.join(folder, "src")):
-        packages += bool(names)
-        size += sum(os.path.getsize(os.path.join(at, name)) for name in names)
-    return packages, size
+def counted(folder, *names):
+    """How many folders below these have files, and how many bytes the files have."""
+    folders, size = 0, 0
+    for top in names:
+        for at, _, files in os.walk(os.path.join(folder, top)):
+            folders += bool(files)
+            size += sum(os.path.getsize(os.path.join(at, name)) for name in files)
+    return folders, size
 
 
 def measured(name, size, given, parse):
@@ -153,9 +159,10 @@ def measured(name, size, given, parse):
     with tempfile.TemporaryDirectory(prefix="bench-") as folder:
         path = made(name, size, given.seed, folder)
         row = {"size": size}
-        row["packages"], row["bytes"] = sources(folder)
+        row["packages"], row["bytes"] = counted(folder, "src")
         found = best_build(given.program, folder, path, given.runs)
         row["seconds"], row["memory"], row["ended"] = found
+        row["moved"] = row["bytes"] + counted(folder, "unit", "lib")[1]
         if parse:
             row["parser"] = parse_seconds(parse, folder, given.runs)
             row["go"], row["go ended"] = build_seconds(folder, path)
@@ -181,8 +188,8 @@ def shown(name, row):
 
 
 def growth(name, quarter, whole):
-    """Prints what time and memory are multiplied by for each doubling of the sources."""
-    doublings = math.log2(whole["bytes"] / quarter["bytes"])
+    """Prints what time and memory are multiplied by for each doubling of what is moved."""
+    doublings = math.log2(whole["moved"] / quarter["moved"])
     spent, held = ((whole[key] / quarter[key]) ** (1 / doublings) for key in ("seconds", "memory"))
     print(f"  at twice the {name}: {spent:.2f} times the time, {held:.2f} times the memory")
 

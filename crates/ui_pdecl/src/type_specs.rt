@@ -1,6 +1,6 @@
 //! Type specifications. Go specification, "Type declarations".
 
-ghost use Rattle.std.specs.Prelude.{◌≡◌, ◌-◌, ◌<◌, IfOk, max};
+ghost use Rattle.std.specs.Prelude.{◌≡◌, ◌-◌, ◌<◌, IfOk, max, false};
 ghost use Rattle.ui_tree.specs.StmtView.{groups_view};
 ghost use Rattle.ui_parse.specs.Reader.{Outcome};
 ghost use Rattle.ui_parse.specs.View.{Reads};

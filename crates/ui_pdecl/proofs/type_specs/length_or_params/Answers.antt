@@ -10,4 +10,4 @@ returns c =
     let ws = c.args.words.now in
     two_readings c.args.budget name c.args.spot ws c.farther.result c.farther.new.words c.if-budget-lt2.false
     (c.farther.ensures (bracketed_group room name c.args.spot ws) (generic_group room name ws) c.bracketed_spec-length.ensures
-    (read_again room name c.in_ok-copy.copy ws c.fork-other.result c.generic_spec-params.result c.generic_spec-params.new.words c.in_ok-copy.ensures c.fork-other.ensures c.generic_spec-params.ensures))
+    (read_again room name c.in-Ok.copy ws c.fork-other.result c.generic_spec-params.result c.generic_spec-params.new.words c.in-Ok.ensures c.fork-other.ensures c.generic_spec-params.ensures))
