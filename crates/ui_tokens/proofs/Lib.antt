@@ -1,1 +1,4 @@
+mod Bodies
+mod Fronts
 mod LiteralValues
+mod ScanFaults

@@ -5,10 +5,10 @@ use Rattle.std.specs.List.{concat, AllByRecursion}
 use lib.Utf8.{scalar}
 use Rattle.std.specs.Char.{len_utf8}
 use Rattle.std.proofs.lemmas.Bool.{cases_lt, eq-eqb, ne_eqb, cond-true, cond-false}
-use Rattle.std.proofs.lemmas.List.{take_at, take_all, drop_at, length-append, length_push, append-nil}
+use Rattle.std.proofs.lemmas.List.{take_at, drop_at, length_push, append-nil}
 use Rattle.std.proofs.lemmas.List.Elements.{All-from_recursion, recursion_from_All}
 use Rattle.std.proofs.lemmas.Str.{length-encode, len_utf8_bounds, inside_one}
-use Rattle.ui_scan.specs.Escape.{escape, code_of, bytes_of}
+use Rattle.ui_scan.specs.Escape.{code_of, bytes_of}
 use Rattle.ui_scan.specs.Language.{IsPlain, IsEscape, IsItem, IsRuneBody, IsRune}
 use Rattle.ui_scan.specs.Language.IsItem.{byte as a_byte, escaped as an_escape}
 use Rattle.ui_scan.specs.Language.IsRuneBody.{char as a_char, escaped as one_escape}
@@ -18,25 +18,14 @@ use Rattle.ui_scan.specs.Value.{inside, unescaped, raw_bytes, string_value, valu
 use Rattle.ui_scan.specs.declared.escape.Escape.{Escape}
 use Rattle.ui_scan.specs.declared.kind.TokenKind.TheVariants.{Rune}
 use Rattle.ui_base.specs.declared.value.Value.TheVariants as value
-use Rattle.ui_scan.proofs.EscapeLanguage.{escape_alike}
 use Rattle.ui_scan.proofs.LetterLaws.{front_char-encode}
 use Rattle.ui_scan.proofs.ValueLaws.{one_byte, one_escape as past_escape}
 use Rattle.ui_tokens.specs.Values.{StandsFor, StandEach, IsRuneOf, StringsByItems, RawStringsByBodies, RunesByItems}
 use Rattle.ui_tokens.specs.Values.StandsFor.{byte, escaped}
+use Rattle.ui_tokens.proofs.Bodies.{escape_before}
 use Rattle.ui_tokens.specs.Values.IsRuneOf.{char, escaped as escaped_rune}
 
 -- ---- strings
-
--- an escape, with other bytes behind it
-escape_before : (item rest : List ℕ) → (is : IsEscape 34 item) → escape 34 (item ++ rest) ≡ Some is.found
-escape_before item rest is =
-    let n = length item in
-    escape_alike 34 item (item ++ rest) is.found
-    (record {
-      same = ap (λ k. take k item) is.whole ∙ take_all n item (omega arith) ∙ sym (ap (λ k. take k (item ++ rest)) is.whole ∙ take_at item rest n refl);
-      left = omega (arith, is.whole);
-      right = omega (arith, is.whole, length-append item rest);
-    }) is.reads
 
 unescaped_byte : (b : ℕ) (rest : List ℕ) → b ≢ 92 → unescaped (b ∷ rest) ≡ b ∷ unescaped rest
 unescaped_byte b rest ne = sym (one_byte (b ∷ rest) [] 0 (omega arith) refl ne)
@@ -47,7 +36,7 @@ unescaped_escape (b ∷ item) rest is =
     let all_ = b ∷ (item ++ rest) in
     let behind : drop (0 + is.found.len) all_ ≡ rest =
     ap (λ n. drop n all_) (let e : 0 + is.found.len ≡ length (b ∷ item) = omega (arith, is.whole) in e) ∙ drop_at (b ∷ item) rest (length (b ∷ item)) refl in
-    sym (past_escape all_ [] 0 (omega arith) refl is.found is.backslash (escape_before (b ∷ item) rest is)) ∙ ap (λ t. bytes_of is.found.stands_for ++ unescaped t) behind
+    sym (past_escape all_ [] 0 (omega arith) refl is.found is.backslash (escape_before 34 (b ∷ item) rest is)) ∙ ap (λ t. bytes_of is.found.stands_for ++ unescaped t) behind
 
 unescaped_item : (item part rest : List ℕ) → StandsFor item part → unescaped (item ++ rest) ≡ part ++ unescaped rest
 unescaped_item item part rest (byte b plain spelling is) =
@@ -65,7 +54,7 @@ unescaped_items (item ∷ items) [] each = absurd each
 unescaped_items (item ∷ items) (part ∷ parts) each = unescaped_item item part (concat items) each.0 ∙ ap (λ t. part ++ t) (unescaped_items items parts each.1)
 
 -- what stands between two quotes
-inside_is : (quote : ℕ) (body : List ℕ) → inside (quote ∷ (body ++ quote ∷ [])) ≡ body
+pub inside_is : (quote : ℕ) (body : List ℕ) → inside (quote ∷ (body ++ quote ∷ [])) ≡ body
 inside_is quote body =
     ap (λ n. take n (body ++ quote ∷ [])) (let e : suc (length (body ++ quote ∷ [])) - 2 ≡ length body = omega (arith, length_push body quote) in e)
     ∙ take_at body (quote ∷ []) (length body) refl
@@ -163,6 +152,11 @@ code_of_escape body is =
     cond-true _ _ _ (eq-eqb (slice_index body 0) 92 is.backslash)
     ∙ ap (option_and_then (λ (e : Escape). cond (e.len == length body) (Some (code_of e.stands_for)) None)) is.reads
     ∙ cond-true (is.found.len == length body) _ _ (eq-eqb is.found.len (length body) is.whole)
+
+-- the number of what a rune holds
+pub rune_body_code : (body : List ℕ) → IsRuneBody body → (code : ℕ) × (rune_code body ≡ Some code)
+rune_body_code body (a_char c valid plain is) = (c, ap rune_code is ∙ code_of_char c valid plain)
+rune_body_code body (one_escape is) = (code_of is.found.stands_for, code_of_escape body is)
 
 rune_value : (text body : List ℕ) (code : ℕ) → text ≡ 39 ∷ (body ++ 39 ∷ []) → rune_code body ≡ Some code → value_in Rune text ≡ value.Whole (pos code)
 rune_value text body code spelling is =
