@@ -1,0 +1,4 @@
+pub mod ConstantsLocal
+pub mod NamesLocal
+pub mod FormsLocal
+pub mod RulesLocal
