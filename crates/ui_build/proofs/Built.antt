@@ -15,7 +15,7 @@ use Rattle.ui_build.specs.Build.{Packages, package_limit, compile_all, export_or
 use Rattle.ui_build.specs.Loading as plans
 use Rattle.ui_build.specs.Loading.{linked_as, print_of, load}
 use Rattle.ui_build.specs.Views.{loaded_of}
-use Rattle.ui_build.specs.Stops.{State, state, DoesStop, Does, DoesTold, Carries, refusal_of}
+use Rattle.ui_build.specs.Stops.{State, state, DoesStop, Does, DoesSeen, Carries, refusal_of}
 use Rattle.ui_build.specs.Built.{IsInOrder, Stands, Compiled}
 use Rattle.ui_build.specs.declared.loading.Loaded.{Loaded}
 use Rattle.ui_build.specs.declared.stop.Stop.{Stop}
@@ -48,8 +48,8 @@ and_read path packages = asking (ask.Read, linked_file path) (export_or path (ge
 abbrev and_compile : Files → Text → List Text → Plan Export
 and_compile files path order = compile_all files empty order >>= λ packages. and_read path packages
 
-pub build_compile_stop : (laws : Orders) (path : Text) (order : Order) (files mid : Option Files) (asked mid_asked : Calls) (new : State) (s : Stop) → mid ≡ files → DoesTold texts (λ told. build_order told path) (state files asked) (state mid mid_asked) (Ok order)
-    → CompilesAll (state mid mid_asked) new order (Err s) → DoesTold kept (λ told. build told path) (state files asked) new (Err s)
+pub build_compile_stop : (laws : Orders) (path : Text) (order : Order) (files mid : Option Files) (asked mid_asked : Calls) (new : State) (s : Stop) → mid ≡ files → DoesSeen texts (λ told. build_order told path) (state files asked) (state mid mid_asked) (Ok order)
+    → CompilesAll (state mid mid_asked) new order (Err s) → DoesSeen kept (λ told. build told path) (state files asked) new (Err s)
 build_compile_stop laws path order None mid asked mid_asked new s same d c = tt
 build_compile_stop laws path order (Some told) mid asked mid_asked new s same d c =
     let old : State = state (Some told) asked in
@@ -78,7 +78,7 @@ read_stop path x e old new (stop.WriteFault n) d = record { asked = d.asked; fil
 read_stop path x e old new stop.NoMemory d = record { asked = d.asked; files = d.files }
 
 -- the built root is loaded
-loads_root : (containers : Containers) (records : Records) (files : Files) (path : Text) (packages : Packages) (two new : State) (r : Result Loaded Stop) → contains_key packages path ≡ true → Stands files two.files packages → DoesTold loaded_of (λ told. load told path) two new r
+loads_root : (containers : Containers) (records : Records) (files : Files) (path : Text) (packages : Packages) (two new : State) (r : Result Loaded Stop) → contains_key packages path ≡ true → Stands files two.files packages → DoesSeen loaded_of (λ told. load told path) two new r
     → (l : Linked) × (print : Text) × (l.export ≡ (entry_at packages path).export) × Does loaded_of (reading path (l, print)) two new r
 loads_root containers records files path packages two new r there stands does =
     let e = entry_at packages path in
@@ -90,8 +90,8 @@ loads_root containers records files path packages two new r there stands does =
 root_key : (files : Files) (path : Text) (order : Order) (packages : Packages) (now : Option Files) → IsOrderOf files path (texts order) → Compiled files (texts order) now packages → contains_key packages path ≡ true
 root_key files path order packages now is c = c.1 path ∙ is.has_root
 
-pub build_load_stop : (laws : Orders) (containers : Containers) (records : Records) (path : Text) (order : Order) (files mid : Option Files) (asked mid_asked : Calls) (two new : State) (s : Stop) → mid ≡ files → DoesTold texts (λ told. build_order told path) (state files asked) (state mid mid_asked) (Ok order)
-    → CompilesAll (state mid mid_asked) two order (Ok tt) → DoesTold loaded_of (λ told. load told path) two new (Err s) → DoesTold kept (λ told. build told path) (state files asked) new (Err s)
+pub build_load_stop : (laws : Orders) (containers : Containers) (records : Records) (path : Text) (order : Order) (files mid : Option Files) (asked mid_asked : Calls) (two new : State) (s : Stop) → mid ≡ files → DoesSeen texts (λ told. build_order told path) (state files asked) (state mid mid_asked) (Ok order)
+    → CompilesAll (state mid mid_asked) two order (Ok tt) → DoesSeen loaded_of (λ told. load told path) two new (Err s) → DoesSeen kept (λ told. build told path) (state files asked) new (Err s)
 build_load_stop laws containers records path order None mid asked mid_asked two new s same d c load = tt
 build_load_stop laws containers records path order (Some told) mid asked mid_asked two new s same d c load =
     let old : State = state (Some told) asked in
@@ -105,8 +105,8 @@ build_load_stop laws containers records path order (Some told) mid asked mid_ask
     (does_then (λ (x : Packages). x) kept (compile_all told empty (texts order)) (and_read path) one two new k.0 (Err s) (k.1, k.2)
     (subst P (sym (root_there path k.0 there)) (read_stop path (l.0, l.1) (entry_at k.0 path).export two new s l.3)))
 
-pub build_ok : (laws : Orders) (containers : Containers) (records : Records) (path : Text) (order : Order) (loaded : Loaded) (files mid : Option Files) (asked mid_asked : Calls) (two new : State) → mid ≡ files → DoesTold texts (λ told. build_order told path) (state files asked) (state mid mid_asked) (Ok order)
-    → CompilesAll (state mid mid_asked) two order (Ok tt) → DoesTold loaded_of (λ told. load told path) two new (Ok loaded) → DoesTold kept (λ told. build told path) (state files asked) new (Ok loaded.linked.export)
+pub build_ok : (laws : Orders) (containers : Containers) (records : Records) (path : Text) (order : Order) (loaded : Loaded) (files mid : Option Files) (asked mid_asked : Calls) (two new : State) → mid ≡ files → DoesSeen texts (λ told. build_order told path) (state files asked) (state mid mid_asked) (Ok order)
+    → CompilesAll (state mid mid_asked) two order (Ok tt) → DoesSeen loaded_of (λ told. load told path) two new (Ok loaded) → DoesSeen kept (λ told. build told path) (state files asked) new (Ok loaded.linked.export)
 build_ok laws containers records path order loaded None mid asked mid_asked two new same d c load = tt
 build_ok laws containers records path order loaded (Some told) mid asked mid_asked two new same d c load =
     let old : State = state (Some told) asked in

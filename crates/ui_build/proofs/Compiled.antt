@@ -16,7 +16,7 @@ use Rattle.ui_build.specs.Plan.{Text, Refusal, Entry, Plan, or_fault, done, sett
 use Rattle.ui_build.specs.Package.{folder, find, read_form, file_limit, unit_file, linked_file}
 use Rattle.ui_build.specs.Build.{Packages, below_of, reads, values, judged, write_files, compile}
 use Rattle.ui_build.specs.Loading.{with_print, linked_as, mark_of, entry_of, prepared}
-use Rattle.ui_build.specs.Stops.{State, IsFileOf, Puts, Ends, DoesStop, Does, DoesTold}
+use Rattle.ui_build.specs.Stops.{State, IsFileOf, Puts, Ends, DoesStop, Does, DoesSeen}
 use Rattle.ui_build.specs.Built.{IsReady, AreBuilt, Stands}
 use Rattle.ui_build.specs.declared.stop.Stop.{Stop}
 use Rattle.ui_build.proofs.Steps.{does_then, does_stop, ends_none, ends_mapped, stop_mapped, bind_ok}
@@ -31,15 +31,6 @@ file_of files told bytes l entry at is are holds short =
     let P : Option Files → Type 0 = λ f. IfSome f (λ t. Holds bytes (linked_as t entry)) in
     let Q : Linked → Type 0 = Holds bytes in
     record { are = are; holds = subst P (sym at) (subst Q is holds); short = short }
-
--- the same after the unit file was written
-file_put : (path one bytes : Text) (entry : Entry) (files : Option Files) → IsFileOf files bytes entry → IsFileOf (put files (unit_file path) one) bytes entry
-unfolding put
-file_put path one bytes entry None file = record { are = file.are; holds = tt; short = file.short }
-file_put path one bytes entry (Some told) file = file_over (insert told (unit_file path) one) told bytes entry (linked_unit told path one entry) file
-
-pub file_after : (path one bytes : Text) (entry : Entry) (files mid : Option Files) → mid ≡ put files (unit_file path) one → IsFileOf files bytes entry → IsFileOf mid bytes entry
-file_after path one bytes entry files mid is file = let P : Option Files → Type 0 = λ f. IsFileOf f bytes entry in subst P (sym is) (file_put path one bytes entry files file)
 
 -- ---- an entry and its linked file
 
@@ -92,10 +83,10 @@ pub record Prepared (files told : Files) (packages : Packages) (path : Text) (l 
   pub ends : Ends (judged files packages path) old mid
   pub below : AllByRecursion (λ b. contains_key packages b.0 ≡ true) entry.below
 
-told_is : {A X : Type 0} (view : A → X) (p : Files → Plan X) (old new : State) (told : Files) (r : Result A Stop) → old.files ≡ Some told → DoesTold view p old new r → Does view (p told) old new r
+told_is : {A X : Type 0} (view : A → X) (p : Files → Plan X) (old new : State) (told : Files) (r : Result A Stop) → old.files ≡ Some told → DoesSeen view p old new r → Does view (p told) old new r
 told_is view p old new told r at d = let P : Option Files → Type 0 = λ f. IfSome f (λ t. Does view (p t) old new r) in subst P at d
 
-pub prepared_ok : (laws : Laws) (files told : Files) (packages : Packages) (path : Text) (l : Linked) (old mid : State) → old.files ≡ Some told → IsReady files told packages path → DoesTold (λ (x : Linked). x) (λ t. prepared t path) old mid (Ok l) → Prepared files told packages path l old mid
+pub prepared_ok : (laws : Laws) (files told : Files) (packages : Packages) (path : Text) (l : Linked) (old mid : State) → old.files ≡ Some told → IsReady files told packages path → DoesSeen (λ (x : Linked). x) (λ t. prepared t path) old mid (Ok l) → Prepared files told packages path l old mid
 prepared_ok laws files told packages path l old mid at ready does =
     let q = judged files packages path in
     let P : Plan Linked → Type 0 = λ p. Does (λ (x : Linked). x) p old mid (Ok l) in
@@ -109,7 +100,7 @@ prepared_ok laws files told packages path l old mid at ready does =
       below = judged_below laws files told packages path a.0 ready a.1;
     }
 
-pub prepared_stop : (laws : Laws) (files told : Files) (packages : Packages) (path : Text) (old new : State) (s : Stop) → old.files ≡ Some told → IsReady files told packages path → DoesTold (λ (x : Linked). x) (λ t. prepared t path) old new (Err s) → DoesStop (compile files packages path) old new s
+pub prepared_stop : (laws : Laws) (files told : Files) (packages : Packages) (path : Text) (old new : State) (s : Stop) → old.files ≡ Some told → IsReady files told packages path → DoesSeen (λ (x : Linked). x) (λ t. prepared t path) old new (Err s) → DoesStop (compile files packages path) old new s
 prepared_stop laws files told packages path old new s at ready does =
     let q = judged files packages path in
     let P : Plan Linked → Type 0 = λ p. DoesStop p old new s in
@@ -130,6 +121,6 @@ pub compile_stands : (files told : Files) (packages : Packages) (path : Text) (l
     → Ends (write_files path p.entry) mid new → Stands files new.files (insert packages path (entry_of l))
 compile_stands files told packages path l old mid new p at ready own ends =
     let P : Entry → Type 0 = λ e. Stands files new.files (insert packages path e) in
-    let Q : Option Files → Type 0 = λ f. Puts ((unit_file path, p.entry) ∷ (linked_file path, p.entry) ∷ []) f new.files in
+    let Q : Option Files → Type 0 = λ f. Puts (record { unit = unit_file path; linked = linked_file path; entry = p.entry } ∷ []) f new.files in
     subst P (sym (entry_is told p.entry) ∙ ap entry_of (sym p.linked))
     (stands_put files told packages path p.entry new.files ready.apart (ap (λ (x : Linked). x.export.path) (sym p.linked) ∙ own) p.below (subst Q at ends.files) ready.same ready.built)

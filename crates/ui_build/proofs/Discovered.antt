@@ -32,10 +32,10 @@ pub record Orders : Type 0 where
   pub acyclic : ArrangesAcyclic
 
 -- What is found has the imports that the sources spell.
-record IsKnown (files : Files) (root : Text) (found : Found) : Type 0 where
-  is_found : IsFound root found
-  few : found_count found ≤ package_limit
-  reads : (p : Text) → contains_key found.read p ≡ true → imports_of found.read p ≡ imports_by files p
+pub record IsKnown (files : Files) (root : Text) (found : Found) : Type 0 where
+  pub is_found : IsFound root found
+  pub few : found_count found ≤ package_limit
+  pub reads : (p : Text) → contains_key found.read p ≡ true → imports_of found.read p ≡ imports_by files p
 
 abbrev some_found : Found → Result Found Refusal
 some_found found = Ok found
@@ -43,7 +43,7 @@ some_found found = Ok found
 found_is : (a b : Found) → some_found a ≡ some_found b → a ≡ b
 found_is a b e = cc
 
-known_begun : (laws : Orders) (files : Files) (root : Text) → IsKnown files root (begun root)
+pub known_begun : (laws : Orders) (files : Files) (root : Text) → IsKnown files root (begun root)
 unfolding begun
 known_begun laws files root = record {
   is_found = laws.begins root;
@@ -70,7 +70,7 @@ reads_more files read path imports is before p there =
       | false ↦ λ e g. ap (λ o. unwrap_or o []) g ∙ before p (sym (ap is_some g) ∙ there)
     ] refl at
 
-limited : (found x : Found) → (settled (within_limit found)).value ≡ Ok x → (found ≡ x) × (found_count found ≤ package_limit)
+pub limited : (found x : Found) → (settled (within_limit found)).value ≡ Ok x → (found ≡ x) × (found_count found ≤ package_limit)
 limited found x e = elim (nat_lt package_limit (found_count found)) as (λ b. nat_lt package_limit (found_count found) ≡ b → (settled (cond b (Err TooMany) (Ok found))).value ≡ Ok x → (found ≡ x) × (found_count found ≤ package_limit)) [
   | true ↦ λ _ h. absurd (never x h)
   | false ↦ λ l h. (found_is found x h, ltb-false package_limit (found_count found) l)
@@ -79,7 +79,7 @@ limited found x e = elim (nat_lt package_limit (found_count found)) as (λ b. na
     never : (x : Found) → ◌≡◌ {A = Result Found Refusal} (Err TooMany) (Ok x) → ⊥
     never x h = absurd cc
 
-known_next : (laws : Orders) (files : Files) (root : Text) (found x : Found) (path : Text) → IsKnown files root found → (discover_one files found path).value ≡ Ok x → IsKnown files root x
+pub known_next : (laws : Orders) (files : Files) (root : Text) (found x : Found) (path : Text) → IsKnown files root found → (discover_one files found path).value ≡ Ok x → IsKnown files root x
 unfolding with_imports
 known_next laws files root found x path known e =
     let a = bind_ok (packages.find files (folder path)) (λ sources. settled (within_limit (with_imports found path (imports_in path sources)))) x e in

@@ -8,7 +8,7 @@ use Rattle.ui_store.specs.Calls.{Calls}
 use Rattle.ui_order.specs.Found.{Found, begun, least_unread}
 use Rattle.ui_build.specs.Plan.{Text, TooMany, ◌>>=◌}
 use Rattle.ui_build.specs.Build.{package_limit, discover, discover_next, discover_one}
-use Rattle.ui_build.specs.Stops.{State, state, DoesTold}
+use Rattle.ui_build.specs.Stops.{State, state, DoesSeen}
 use Rattle.ui_build.specs.declared.stop.Refusal.TheVariants as told
 use Rattle.ui_build.specs.declared.stop.Stop.{Stop}
 use Rattle.ui_build.specs.declared.stop.Stop.TheVariants as stop
@@ -21,46 +21,46 @@ kept found = found
 -- what is left to find does the same as the whole, in at most so many turns
 abbrev pub Finds : Text → State → ℕ → Found → State → Type 0
 Finds root initial turns found now =
-    (new : State) (r : Result Found Stop) → DoesTold kept (λ files. discover turns files found) now new r → DoesTold kept (λ files. discover (suc package_limit) files (begun root)) initial new r
+    (new : State) (r : Result Found Stop) → DoesSeen kept (λ files. discover turns files found) now new r → DoesSeen kept (λ files. discover (suc package_limit) files (begun root)) initial new r
 
 pub finds_first : (root : Text) (initial : State) (found : Found) → found ≡ begun root → Finds root initial (suc package_limit) found initial
-finds_first root initial found is = λ new r d. let P : Found → Type 0 = λ f. DoesTold kept (λ files. discover (suc package_limit) files f) initial new r in subst P is d
+finds_first root initial found is = λ new r d. let P : Found → Type 0 = λ f. DoesSeen kept (λ files. discover (suc package_limit) files f) initial new r in subst P is d
 
-finds_path : (n : ℕ) (found : Found) (path : Text) (old new : State) (r : Result Found Stop) → least_unread found ≡ Some path → DoesTold kept (λ files. discover_one files found path >>= discover n files) old new r → DoesTold kept (λ files. discover (suc n) files found) old new r
+finds_path : (n : ℕ) (found : Found) (path : Text) (old new : State) (r : Result Found Stop) → least_unread found ≡ Some path → DoesSeen kept (λ files. discover_one files found path >>= discover n files) old new r → DoesSeen kept (λ files. discover (suc n) files found) old new r
 unfolding discover
-finds_path n found path old new r is d = let P : Option Text → Type 0 = λ o. DoesTold kept (λ files. discover_next (discover n files) files found o) old new r in subst P (sym is) d
+finds_path n found path old new r is d = let P : Option Text → Type 0 = λ o. DoesSeen kept (λ files. discover_next (discover n files) files found o) old new r in subst P (sym is) d
 
 pub finds_next : {A : Type 0} (view : A → Found) (root : Text) (initial : State) (n : ℕ) (found : Found) (path : Text) (files mid : Option Files) (asked mid_asked : Calls) (a : A) → least_unread found ≡ Some path → mid ≡ files → Finds root initial (suc n) found (state files asked)
-    → DoesTold view (λ f. discover_one f found path) (state files asked) (state mid mid_asked) (Ok a) → Finds root initial n (view a) (state mid mid_asked)
+    → DoesSeen view (λ f. discover_one f found path) (state files asked) (state mid mid_asked) (Ok a) → Finds root initial n (view a) (state mid mid_asked)
 finds_next view root initial n found path files mid asked mid_asked a is same rest does = λ new r d.
     rest new r (finds_path n found path (state files asked) new r is (told_then view kept (λ f. discover_one f found path) (λ f. discover n f) files mid asked mid_asked new a r same does d))
 
 pub finds_stop : {A : Type 0} (view : A → Found) (root : Text) (initial : State) (n : ℕ) (found : Found) (path : Text) (files : Option Files) (asked : Calls) (new : State) (s : Stop) → least_unread found ≡ Some path → Finds root initial (suc n) found (state files asked)
-    → DoesTold view (λ f. discover_one f found path) (state files asked) new (Err s) → DoesTold kept (λ f. discover (suc package_limit) f (begun root)) initial new (Err s)
+    → DoesSeen view (λ f. discover_one f found path) (state files asked) new (Err s) → DoesSeen kept (λ f. discover (suc package_limit) f (begun root)) initial new (Err s)
 finds_stop view root initial n found path files asked new s is rest does =
     rest new (Err s) (finds_path n found path (state files asked) new (Err s) is (told_stop view kept (λ f. discover_one f found path) (λ f. discover n f) files asked new s does))
 
-pub finds_none : (root : Text) (initial : State) (turns : ℕ) (found : Found) (files : Option Files) (asked : Calls) → Finds root initial turns found (state files asked) → DoesTold kept (λ f. discover (suc package_limit) f (begun root)) initial (state files asked) (Err stop.NoMemory)
+pub finds_none : (root : Text) (initial : State) (turns : ℕ) (found : Found) (files : Option Files) (asked : Calls) → Finds root initial turns found (state files asked) → DoesSeen kept (λ f. discover (suc package_limit) f (begun root)) initial (state files asked) (Err stop.NoMemory)
 finds_none root initial turns found files asked rest = rest (state files asked) (Err stop.NoMemory) (told_none kept (λ f. discover turns f found) files asked)
 
 -- nothing is unread
-finds_end : (n : ℕ) (found : Found) (files : Option Files) (asked : Calls) → least_unread found ≡ None → DoesTold kept (λ f. discover (suc n) f found) (state files asked) (state files asked) (Ok found)
+finds_end : (n : ℕ) (found : Found) (files : Option Files) (asked : Calls) → least_unread found ≡ None → DoesSeen kept (λ f. discover (suc n) f found) (state files asked) (state files asked) (Ok found)
 unfolding discover
 finds_end n found files asked is =
-    let P : Option Text → Type 0 = λ o. DoesTold kept (λ f. discover_next (discover n f) f found o) (state files asked) (state files asked) (Ok found) in
+    let P : Option Text → Type 0 = λ o. DoesSeen kept (λ f. discover_next (discover n f) f found o) (state files asked) (state files asked) (Ok found) in
     subst P (sym is) (told_done kept found found files asked refl)
 
-pub finds_all : (root : Text) (initial : State) (n : ℕ) (found : Found) (files : Option Files) (asked : Calls) → least_unread found ≡ None → Finds root initial (suc n) found (state files asked) → DoesTold kept (λ f. discover (suc package_limit) f (begun root)) initial (state files asked) (Ok found)
+pub finds_all : (root : Text) (initial : State) (n : ℕ) (found : Found) (files : Option Files) (asked : Calls) → least_unread found ≡ None → Finds root initial (suc n) found (state files asked) → DoesSeen kept (λ f. discover (suc package_limit) f (begun root)) initial (state files asked) (Ok found)
 finds_all root initial n found files asked is rest = rest (state files asked) (Ok found) (finds_end n found files asked is)
 
 -- no turn is left
-finds_too_many : (found : Found) (files : Option Files) (asked : Calls) → DoesTold kept (λ f. discover zero f found) (state files asked) (state files asked) (Err (stop.Refused told.TooMany))
+finds_too_many : (found : Found) (files : Option Files) (asked : Calls) → DoesSeen kept (λ f. discover zero f found) (state files asked) (state files asked) (Err (stop.Refused told.TooMany))
 unfolding discover
 finds_too_many found files asked = told_refused kept TooMany told.TooMany files asked refl
 
-pub finds_over : (root : Text) (initial : State) (turns : ℕ) (found : Found) (files : Option Files) (asked : Calls) → turns ≡ 0 → Finds root initial turns found (state files asked) → DoesTold kept (λ f. discover (suc package_limit) f (begun root)) initial (state files asked) (Err (stop.Refused told.TooMany))
+pub finds_over : (root : Text) (initial : State) (turns : ℕ) (found : Found) (files : Option Files) (asked : Calls) → turns ≡ 0 → Finds root initial turns found (state files asked) → DoesSeen kept (λ f. discover (suc package_limit) f (begun root)) initial (state files asked) (Err (stop.Refused told.TooMany))
 finds_over root initial turns found files asked none rest =
-    let P : ℕ → Type 0 = λ n. DoesTold kept (λ f. discover n f found) (state files asked) (state files asked) (Err (stop.Refused told.TooMany)) in
+    let P : ℕ → Type 0 = λ n. DoesSeen kept (λ f. discover n f found) (state files asked) (state files asked) (Err (stop.Refused told.TooMany)) in
     rest (state files asked) (Err (stop.Refused told.TooMany)) (subst P (sym none) (finds_too_many found files asked))
 
 -- the turns that are left at a turn

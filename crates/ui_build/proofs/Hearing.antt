@@ -30,7 +30,7 @@ use Rattle.ui_build.specs.Build.{package_limit}
 use Rattle.ui_build.specs.Loading.{Loaded, Imports, with_loaded, recorded, opened, or_element, or_apart, with_export, judged_with, judgement}
 use Rattle.ui_build.specs.Sources.{sources_of}
 use Rattle.ui_build.specs.Stops.{SettlesStop, refusal_of}
-use Rattle.ui_build.specs.Heard.{Hears, IsNoRefusal, StoppedBy, RefusedBy, HeardLast, LacksFile, BadSource, BadLinked, BadPackage, RefusesLinked, FindsSources, ReadsSources, ReadsForm, HasRead, HasListed, HearsPackage, LoadsAll, LoadsImports, Loads, Compiles, CompilesAll, Builds, heard_source, names_of, given_of, pairs_of}
+use Rattle.ui_build.specs.Heard.{HearsIn, IsNoRefusal, StoppedBy, RefusedBy, HeardLast, LacksFile, BadSource, BadLinked, BadPackage, RefusesLinked, FindsSources, ReadsSources, ReadsForm, HasRead, HasListed, HearsPackage, LoadsAll, LoadsImports, Loads, Compiles, CompilesAll, Builds, heard_source, names_of, given_of, pairs_of}
 use Rattle.ui_sources.specs.declared.source.Source.{Source as InMemory}
 use Rattle.ui_build.specs.declared.stop.Refusal.TheVariants as told
 use Rattle.ui_build.specs.declared.stop.Stop.{Stop}
@@ -102,19 +102,19 @@ no_refusal heard stop.NoMemory by = tt
 -- ---- steps
 
 -- one call
-pub heard_one : {X : Type 0} (gives : X → List Hearing → Type 0) (x : X) (entry : Hearing) (old new : Hearings) → new ≡ more old (entry ∷ []) → gives x (entry ∷ []) → Hears gives old new (Ok x)
+pub heard_one : {X : Type 0} (gives : X → List Hearing → Type 0) (x : X) (entry : Hearing) (old new : Hearings) → new ≡ more old (entry ∷ []) → gives x (entry ∷ []) → HearsIn gives old new (Ok x)
 heard_one gives x entry old new told ends = record { heard = entry ∷ []; told = told; ends = ends }
 
 -- one call, and the step was stopped
-pub heard_one_stop : {X : Type 0} (gives : X → List Hearing → Type 0) (entry : Hearing) (s : Stop) (old new : Hearings) → new ≡ more old (entry ∷ []) → StoppedBy s (entry ∷ []) → Hears gives old new (Err s)
+pub heard_one_stop : {X : Type 0} (gives : X → List Hearing → Type 0) (entry : Hearing) (s : Stop) (old new : Hearings) → new ≡ more old (entry ∷ []) → StoppedBy s (entry ∷ []) → HearsIn gives old new (Err s)
 heard_one_stop gives entry s old new told ends = record { heard = entry ∷ []; told = told; ends = ends }
 
 -- nothing was heard
-pub heard_none : {X : Type 0} (gives : X → List Hearing → Type 0) (s : Stop) (old new : Hearings) → new ≡ old → IsNoRefusal s → Hears gives old new (Err s)
+pub heard_none : {X : Type 0} (gives : X → List Hearing → Type 0) (s : Stop) (old new : Hearings) → new ≡ old → IsNoRefusal s → HearsIn gives old new (Err s)
 heard_none gives s old new same by = record { heard = []; told = same ∙ sym (more_none old); ends = no_refusal [] s by }
 
 -- a step that was stopped
-pub heard_stop : {A B : Type 0} (first : A → List Hearing → Type 0) (gives : B → List Hearing → Type 0) (s : Stop) (old new : Hearings) → Hears first old new (Err s) → Hears gives old new (Err s)
+pub heard_stop : {A B : Type 0} (first : A → List Hearing → Type 0) (gives : B → List Hearing → Type 0) (s : Stop) (old new : Hearings) → HearsIn first old new (Err s) → HearsIn gives old new (Err s)
 heard_stop first gives s old new h = record { heard = h.heard; told = h.told; ends = h.ends }
 
 both_told : (old mid new : Hearings) (a b : List Hearing) → mid ≡ more old a → new ≡ more mid b → new ≡ more old (a ++ b)
@@ -122,22 +122,22 @@ both_told old mid new a b p q = q ∙ ap (λ o. more o b) p ∙ more_twice old a
 
 -- a step that gave a value, and the next
 pub heard_then : {A B C : Type 0} (first : A → List Hearing → Type 0) (next : B → List Hearing → Type 0) (gives : C → List Hearing → Type 0) (a : A) (b : B) (c : C) (old mid new : Hearings)
-    → ((x y : List Hearing) → first a x → next b y → gives c (x ++ y)) → Hears first old mid (Ok a) → Hears next mid new (Ok b) → Hears gives old new (Ok c)
+    → ((x y : List Hearing) → first a x → next b y → gives c (x ++ y)) → HearsIn first old mid (Ok a) → HearsIn next mid new (Ok b) → HearsIn gives old new (Ok c)
 heard_then first next gives a b c old mid new join f n = record { heard = f.heard ++ n.heard; told = both_told old mid new f.heard n.heard f.told n.told; ends = join f.heard n.heard f.ends n.ends }
 
 -- a step that gave a value, and the next, which was stopped
-pub heard_then_stop : {A B C : Type 0} (first : A → List Hearing → Type 0) (next : B → List Hearing → Type 0) (gives : C → List Hearing → Type 0) (a : A) (s : Stop) (old mid new : Hearings) → Hears first old mid (Ok a) → Hears next mid new (Err s) → Hears gives old new (Err s)
+pub heard_then_stop : {A B C : Type 0} (first : A → List Hearing → Type 0) (next : B → List Hearing → Type 0) (gives : C → List Hearing → Type 0) (a : A) (s : Stop) (old mid new : Hearings) → HearsIn first old mid (Ok a) → HearsIn next mid new (Err s) → HearsIn gives old new (Err s)
 heard_then_stop first next gives a s old mid new f n = record { heard = f.heard ++ n.heard; told = both_told old mid new f.heard n.heard f.told n.told; ends = stopped_later f.heard n.heard s n.ends }
 
 -- a step that gave a value, and what stopped then by that
-pub heard_settled : {A B : Type 0} (first : A → List Hearing → Type 0) (gives : B → List Hearing → Type 0) (a : A) (s : Stop) (old new : Hearings) → ((x : List Hearing) → first a x → StoppedBy s x) → Hears first old new (Ok a) → Hears gives old new (Err s)
+pub heard_settled : {A B : Type 0} (first : A → List Hearing → Type 0) (gives : B → List Hearing → Type 0) (a : A) (s : Stop) (old new : Hearings) → ((x : List Hearing) → first a x → StoppedBy s x) → HearsIn first old new (Ok a) → HearsIn gives old new (Err s)
 heard_settled first gives a s old new by f = record { heard = f.heard; told = f.told; ends = by f.heard f.ends }
 
 -- the same, and nothing more was heard
-pub heard_value : {A B : Type 0} (first : A → List Hearing → Type 0) (gives : B → List Hearing → Type 0) (a : A) (b : B) (old mid new : Hearings) → new ≡ mid → ((x : List Hearing) → first a x → gives b x) → Hears first old mid (Ok a) → Hears gives old new (Ok b)
+pub heard_value : {A B : Type 0} (first : A → List Hearing → Type 0) (gives : B → List Hearing → Type 0) (a : A) (b : B) (old mid new : Hearings) → new ≡ mid → ((x : List Hearing) → first a x → gives b x) → HearsIn first old mid (Ok a) → HearsIn gives old new (Ok b)
 heard_value first gives a b old mid new same by f = record { heard = f.heard; told = same ∙ f.told; ends = by f.heard f.ends }
 
-pub heard_then_none : {A B : Type 0} (first : A → List Hearing → Type 0) (gives : B → List Hearing → Type 0) (a : A) (s : Stop) (old mid new : Hearings) → new ≡ mid → IsNoRefusal s → Hears first old mid (Ok a) → Hears gives old new (Err s)
+pub heard_then_none : {A B : Type 0} (first : A → List Hearing → Type 0) (gives : B → List Hearing → Type 0) (a : A) (s : Stop) (old mid new : Hearings) → new ≡ mid → IsNoRefusal s → HearsIn first old mid (Ok a) → HearsIn gives old new (Err s)
 heard_then_none first gives a s old mid new same by f = record { heard = f.heard; told = same ∙ f.told; ends = no_refusal f.heard s by }
 
 -- ---- sources
@@ -175,21 +175,21 @@ next_told : (sources : List Source) (s : Source) (old now new : Hearings) → no
 next_told sources s old now new p heard q e = both_told old now new (map heard_source sources) heard p q ∙ ap (λ h. more old (map heard_source sources ++ h)) e ∙ ap (more old) (sym (map-append heard_source sources (s ∷ [])))
 
 pub so_far_next : {X : Type 0} (view : X → Source) (folder : Text) (names : Names) (i : ℕ) (d : String Global) (sources : List Source) (x : X) (old now new : Hearings) → i < length names → is_source (string_bytes (get_or names i d)) ≡ true → (view x).0 ≡ file_in folder (string_bytes (get_or names i d))
-    → ReadSoFar folder names i sources old now → Hears (λ y. HasRead (view y)) now new (Ok x) → ReadSoFar folder names (i + 1) (sources ++ view x ∷ []) old new
+    → ReadSoFar folder names i sources old now → HearsIn (λ y. HasRead (view y)) now new (Ok x) → ReadSoFar folder names (i + 1) (sources ++ view x ∷ []) old new
 so_far_next view folder names i d sources x old now new h e name r read = record {
   told = next_told sources (view x) old now new r.told read.heard read.told read.ends;
   parts = map-append (λ (s : Source). s.0) sources (view x ∷ []) ∙ ap (λ ns. ns ++ (view x).0 ∷ []) r.parts ∙ ap (λ n. map (file_in folder) (sources_to names i) ++ n ∷ []) name
       ∙ sym (map-append (file_in folder) (sources_to names i) (string_bytes (get_or names i d) ∷ [])) ∙ ap (map (file_in folder)) (sym (source_more names i d h e));
 }
 
-pub so_far_stop : {X Y : Type 0} (read : X → List Hearing → Type 0) (gives : Y → List Hearing → Type 0) (folder : Text) (names : Names) (i : ℕ) (sources : List Source) (s : Stop) (old now new : Hearings) → ReadSoFar folder names i sources old now → Hears read now new (Err s) → Hears gives old new (Err s)
+pub so_far_stop : {X Y : Type 0} (read : X → List Hearing → Type 0) (gives : Y → List Hearing → Type 0) (folder : Text) (names : Names) (i : ℕ) (sources : List Source) (s : Stop) (old now new : Hearings) → ReadSoFar folder names i sources old now → HearsIn read now new (Err s) → HearsIn gives old new (Err s)
 so_far_stop read gives folder names i sources s old now new r h = record { heard = map heard_source sources ++ h.heard; told = both_told old now new (map heard_source sources) h.heard r.told h.told; ends = stopped_later (map heard_source sources) h.heard s h.ends }
 
-pub so_far_none : {Y : Type 0} (gives : Y → List Hearing → Type 0) (folder : Text) (names : Names) (i : ℕ) (sources : List Source) (old now : Hearings) → ReadSoFar folder names i sources old now → Hears gives old now (Err stop.NoMemory)
+pub so_far_none : {Y : Type 0} (gives : Y → List Hearing → Type 0) (folder : Text) (names : Names) (i : ℕ) (sources : List Source) (old now : Hearings) → ReadSoFar folder names i sources old now → HearsIn gives old now (Err stop.NoMemory)
 so_far_none gives folder names i sources old now r = record { heard = map heard_source sources; told = r.told; ends = tt }
 
 pub so_far_last : (folder : Text) (names : Names) (i : ℕ) (v : Vec InMemory Global) (old now : Hearings) → take i names ≡ names → ReadSoFar folder names i (sources_of v) old now
-    → Hears (λ (w : Vec InMemory Global). ReadsSources folder (filter is_source (map string_bytes names)) (sources_of w)) old now (Ok v)
+    → HearsIn (λ (w : Vec InMemory Global). ReadsSources folder (filter is_source (map string_bytes names)) (sources_of w)) old now (Ok v)
 so_far_last folder names i v old now all r = record {
   heard = map heard_source (sources_of v);
   told = r.told;
@@ -219,7 +219,7 @@ found_none folder names sources a b none listed read = lists_last folder (map so
 
 -- a folder was listed that has no source
 pub heard_empty : {Y : Type 0} (gives : Y → List Hearing → Type 0) (folder : Text) (name : String Global) (names : Vec (String Global) Global) (v : Vec InMemory Global) (old mid new : Hearings) → string_bytes name ≡ folder → length v.items ≡ 0
-    → Hears (λ (ns : Vec (String Global) Global). HasListed folder (texts ns)) old mid (Ok names) → Hears (λ (w : Vec InMemory Global). ReadsSources folder (filter is_source (texts names)) (sources_of w)) mid new (Ok v) → Hears gives old new (Err (stop.Refused (told.NoFile name)))
+    → HearsIn (λ (ns : Vec (String Global) Global). HasListed folder (texts ns)) old mid (Ok names) → HearsIn (λ (w : Vec InMemory Global). ReadsSources folder (filter is_source (texts names)) (sources_of w)) mid new (Ok v) → HearsIn gives old new (Err (stop.Refused (told.NoFile name)))
 heard_empty gives folder name names v old mid new is none l r =
     let P : Text → Type 0 = λ n. LacksFile n (l.heard ++ r.heard) in
     record { heard = l.heard ++ r.heard; told = both_told old mid new l.heard r.heard l.told r.told; ends = subst P (sym is) (found_none folder (texts names) v.items l.heard r.heard none l.ends r.ends) }
@@ -233,10 +233,10 @@ err_is : {X : Type 0} (x y : Refusal) → failing {X = X} x ≡ failing y → y 
 err_is x y e = cc
 
 -- A package has no form for want of sources, for their fault, or for what isn't taken.
-abbrev IsNoForm : Text → List Source → Refusal → Type 0
+abbrev pub IsNoForm : Text → List Source → Refusal → Type 0
 IsNoForm path sources r = ((sources ≡ []) × (r ≡ NoFile (folder path))) ⊎ (((fault : Fault) × (r ≡ Faulty fault)) ⊎ ((pos : Pos) × (r ≡ Form pos)))
 
-abbrev IsNoFormOfTrees : Refusal → Type 0
+abbrev pub IsNoFormOfTrees : Refusal → Type 0
 IsNoFormOfTrees r = ((fault : Fault) × (r ≡ Faulty fault)) ⊎ ((pos : Pos) × (r ≡ Form pos))
 
 not_formed : (found : Result SourceForm Pos) (r : Refusal) → or_form found ≡ Err r → IsNoFormOfTrees r
@@ -247,7 +247,7 @@ no_form : (path : Text) (found : Result Trees Fault) (r : Refusal) → form_by p
 no_form path (Ok trees) r e = not_formed _ r e
 no_form path (Err fault) r e = inl (fault, err_is {X = SourceForm} (Faulty fault) r e)
 
-no_form_by : (path : Text) (sources : List Source) (r : Refusal) → form_or path sources ≡ Err r → IsNoForm path sources r
+pub no_form_by : (path : Text) (sources : List Source) (r : Refusal) → form_or path sources ≡ Err r → IsNoForm path sources r
 unfolding form_or
 no_form_by path [] r e = inl (refl, err_is {X = SourceForm} (NoFile (folder path)) r e)
 no_form_by path (source ∷ sources) r e = inr (no_form path (trees_of path (source ∷ sources)) r e)
@@ -387,7 +387,7 @@ pairs_more all one imports e =
     (sym (map-append (λ (l : Loaded). l.0) all (one ∷ []))) (sym (map-append (λ (l : Loaded). l.1) all (one ∷ [])))
 
 pub loaded_next : {X : Type 0} (view : X → Loaded) (names : Names) (i : ℕ) (d : String Global) (imports : Imports) (x : X) (old now new : Hearings) → i < length names
-    → LoadedSoFar names i imports old now → Hears (λ y. Loads (string_bytes (get_or names i d)) (view y)) now new (Ok x) → LoadedSoFar names (i + 1) (with_loaded imports (view x)) old new
+    → LoadedSoFar names i imports old now → HearsIn (λ y. Loads (string_bytes (get_or names i d)) (view y)) now new (Ok x) → LoadedSoFar names (i + 1) (with_loaded imports (view x)) old new
 loaded_next view names i d imports x old now new h r read =
     let P : List Text → Type 0 = λ ps. LoadsAll ps (r.all ++ view x ∷ []) (r.heard ++ read.heard) in
     record {
@@ -398,13 +398,13 @@ loaded_next view names i d imports x old now new h r read =
       are = pairs_more r.all (view x) imports r.are;
     }
 
-pub loaded_stop : {X Y : Type 0} (read : X → List Hearing → Type 0) (gives : Y → List Hearing → Type 0) (names : Names) (i : ℕ) (imports : Imports) (s : Stop) (old now new : Hearings) → LoadedSoFar names i imports old now → Hears read now new (Err s) → Hears gives old new (Err s)
+pub loaded_stop : {X Y : Type 0} (read : X → List Hearing → Type 0) (gives : Y → List Hearing → Type 0) (names : Names) (i : ℕ) (imports : Imports) (s : Stop) (old now new : Hearings) → LoadedSoFar names i imports old now → HearsIn read now new (Err s) → HearsIn gives old new (Err s)
 loaded_stop read gives names i imports s old now new r h = record { heard = r.heard ++ h.heard; told = both_told old now new r.heard h.heard r.told h.told; ends = stopped_later r.heard h.heard s h.ends }
 
-pub loaded_none : {Y : Type 0} (gives : Y → List Hearing → Type 0) (names : Names) (i : ℕ) (imports : Imports) (old now : Hearings) → LoadedSoFar names i imports old now → Hears gives old now (Err stop.NoMemory)
+pub loaded_none : {Y : Type 0} (gives : Y → List Hearing → Type 0) (names : Names) (i : ℕ) (imports : Imports) (old now : Hearings) → LoadedSoFar names i imports old now → HearsIn gives old now (Err stop.NoMemory)
 loaded_none gives names i imports old now r = record { heard = r.heard; told = r.told; ends = tt }
 
-pub loaded_last : {X : Type 0} (view : X → Imports) (x : X) (names : Names) (i : ℕ) (old now : Hearings) → take i names ≡ names → LoadedSoFar names i (view x) old now → Hears (λ y. LoadsImports (map string_bytes names) (view y)) old now (Ok x)
+pub loaded_last : {X : Type 0} (view : X → Imports) (x : X) (names : Names) (i : ℕ) (old now : Hearings) → take i names ≡ names → LoadedSoFar names i (view x) old now → HearsIn (λ y. LoadsImports (map string_bytes names) (view y)) old now (Ok x)
 loaded_last view x names i old now all r =
     let P : List (String Global) → Type 0 = λ ns. LoadsAll (map string_bytes ns) r.all r.heard in
     record { heard = r.heard; told = r.told; ends = record { all = r.all; loads = subst P all r.loads; are = r.are } }
@@ -479,7 +479,7 @@ package_stopped path form all heard stop.NoMemory is hears = tt
 
 -- a form was read and the linked files of its imports, and the package is what they say
 pub heard_compiled : {A : Type 0} (view : A → Imports) (path : Text) (form : SourceForm) (a : A) (linked : Linked) (old mid new : Hearings) → judgement path form (view a) ≡ Ok linked
-    → Hears (ReadsForm path) old mid (Ok form) → Hears (λ x. LoadsImports (imported form) (view x)) mid new (Ok a) → Hears (Compiles path) old new (Ok linked)
+    → HearsIn (ReadsForm path) old mid (Ok form) → HearsIn (λ x. LoadsImports (imported form) (view x)) mid new (Ok a) → HearsIn (Compiles path) old new (Ok linked)
 heard_compiled view path form a linked old mid new is f l = record {
   heard = f.heard ++ l.heard;
   told = both_told old mid new f.heard l.heard f.told l.told;
@@ -488,7 +488,7 @@ heard_compiled view path form a linked old mid new is f l = record {
 
 -- and it is stopped by what they say
 pub heard_compile_stop : {A B : Type 0} (gives : B → List Hearing → Type 0) (view : A → Imports) (path : Text) (form : SourceForm) (a : A) (s : Stop) (old mid new : Hearings) → SettlesStop (judgement path form (view a)) s
-    → Hears (ReadsForm path) old mid (Ok form) → Hears (λ x. LoadsImports (imported form) (view x)) mid new (Ok a) → Hears gives old new (Err s)
+    → HearsIn (ReadsForm path) old mid (Ok form) → HearsIn (λ x. LoadsImports (imported form) (view x)) mid new (Ok a) → HearsIn gives old new (Err s)
 heard_compile_stop gives view path form a s old mid new is f l =
     let P : Imports → Type 0 = λ i. SettlesStop (judgement path form i) s in
     record {
@@ -515,7 +515,7 @@ pub compiled_first : (names : Names) (old : Hearings) → CompiledSoFar names 0 
 compiled_first names old = record { heard = []; told = sym (more_none old); compiles = refl }
 
 pub compiled_next : (names : Names) (i : ℕ) (d : String Global) (linked : Linked) (old now new : Hearings) → i < length names
-    → CompiledSoFar names i old now → Hears (Compiles (string_bytes (get_or names i d))) now new (Ok linked) → CompiledSoFar names (i + 1) old new
+    → CompiledSoFar names i old now → HearsIn (Compiles (string_bytes (get_or names i d))) now new (Ok linked) → CompiledSoFar names (i + 1) old new
 compiled_next names i d linked old now new h r one =
     let P : List Text → Type 0 = λ ps. CompilesAll ps (r.heard ++ one.heard) in
     record {
@@ -524,21 +524,21 @@ compiled_next names i d linked old now new h r one =
       compiles = subst P (sym (path_more names i d h)) (compiles_more (paths_to names i) (string_bytes (get_or names i d)) linked r.heard one.heard r.compiles one.ends);
     }
 
-pub compiled_stop : {X Y : Type 0} (one : X → List Hearing → Type 0) (gives : Y → List Hearing → Type 0) (names : Names) (i : ℕ) (s : Stop) (old now new : Hearings) → CompiledSoFar names i old now → Hears one now new (Err s) → Hears gives old new (Err s)
+pub compiled_stop : {X Y : Type 0} (one : X → List Hearing → Type 0) (gives : Y → List Hearing → Type 0) (names : Names) (i : ℕ) (s : Stop) (old now new : Hearings) → CompiledSoFar names i old now → HearsIn one now new (Err s) → HearsIn gives old new (Err s)
 compiled_stop one gives names i s old now new r h = record { heard = r.heard ++ h.heard; told = both_told old now new r.heard h.heard r.told h.told; ends = stopped_later r.heard h.heard s h.ends }
 
-pub compiled_none : {Y : Type 0} (gives : Y → List Hearing → Type 0) (names : Names) (i : ℕ) (old now : Hearings) → CompiledSoFar names i old now → Hears gives old now (Err stop.NoMemory)
+pub compiled_none : {Y : Type 0} (gives : Y → List Hearing → Type 0) (names : Names) (i : ℕ) (old now : Hearings) → CompiledSoFar names i old now → HearsIn gives old now (Err stop.NoMemory)
 compiled_none gives names i old now r = record { heard = r.heard; told = r.told; ends = tt }
 
-pub compiled_last : {X : Type 0} (x : X) (names : Names) (i : ℕ) (old now : Hearings) → take i names ≡ names → CompiledSoFar names i old now → Hears (λ (y : X). CompilesAll (map string_bytes names)) old now (Ok x)
+pub compiled_last : {X : Type 0} (x : X) (names : Names) (i : ℕ) (old now : Hearings) → take i names ≡ names → CompiledSoFar names i old now → HearsIn (λ (y : X). CompilesAll (map string_bytes names)) old now (Ok x)
 compiled_last x names i old now all r =
     let P : List (String Global) → Type 0 = λ ns. CompilesAll (map string_bytes ns) r.heard in
     record { heard = r.heard; told = r.told; ends = subst P all r.compiles }
 
 -- ---- a build
 
-pub heard_build : {A B C : Type 0} (first : A → List Hearing → Type 0) (view : C → Loaded) (path : Text) (order : List Text) (a : A) (b : B) (x : C) (old one two new : Hearings) → Hears first old one (Ok a) → Hears (λ (y : B). CompilesAll order) one two (Ok b)
-    → Hears (λ y. Loads path (view y)) two new (Ok x) → Hears (Builds path) old new (Ok (view x).0.export)
+pub heard_build : {A B C : Type 0} (first : A → List Hearing → Type 0) (view : C → Loaded) (path : Text) (order : List Text) (a : A) (b : B) (x : C) (old one two new : Hearings) → HearsIn first old one (Ok a) → HearsIn (λ (y : B). CompilesAll order) one two (Ok b)
+    → HearsIn (λ y. Loads path (view y)) two new (Ok x) → HearsIn (Builds path) old new (Ok (view x).0.export)
 heard_build first view path order a b x old one two new f k l = record {
   heard = f.heard ++ (k.heard ++ l.heard);
   told = both_told old one new f.heard (k.heard ++ l.heard) f.told (both_told one two new k.heard l.heard k.told l.told);
@@ -547,7 +547,7 @@ heard_build first view path order a b x old one two new f k l = record {
 
 -- two steps that gave values, and the next, which was stopped
 pub heard_both_stop : {A B C D : Type 0} (first : A → List Hearing → Type 0) (second : B → List Hearing → Type 0) (next : C → List Hearing → Type 0) (gives : D → List Hearing → Type 0) (a : A) (b : B) (s : Stop) (old one two new : Hearings)
-    → Hears first old one (Ok a) → Hears second one two (Ok b) → Hears next two new (Err s) → Hears gives old new (Err s)
+    → HearsIn first old one (Ok a) → HearsIn second one two (Ok b) → HearsIn next two new (Err s) → HearsIn gives old new (Err s)
 heard_both_stop first second next gives a b s old one two new f k n = record {
   heard = f.heard ++ (k.heard ++ n.heard);
   told = both_told old one new f.heard (k.heard ++ n.heard) f.told (both_told one two new k.heard n.heard k.told n.told);

@@ -17,3 +17,4 @@ pub mod Built
 pub mod Hearing
 pub mod Anything
 pub mod Dumped
+pub mod Deciding

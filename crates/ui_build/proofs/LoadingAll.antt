@@ -16,7 +16,7 @@ use Rattle.ui_build.specs.Plan.{Text}
 use Rattle.ui_build.specs.Loading as plans
 use Rattle.ui_build.specs.Loading.{load, load_all, with_loaded}
 use Rattle.ui_build.specs.Views.{loaded_of, imports_of, is_sound}
-use Rattle.ui_build.specs.Stops.{State, state, DoesTold}
+use Rattle.ui_build.specs.Stops.{State, state, DoesSeen}
 use Rattle.ui_build.specs.declared.loading.Loaded.{Loaded}
 use Rattle.ui_build.specs.declared.loading.Imports.{Imports}
 use Rattle.ui_build.specs.declared.stop.Stop.{Stop}
@@ -35,44 +35,44 @@ path_here names i d h = ap (map string_bytes) (drop-cons names i d h) ∙ ap (λ
 -- what is left to read does the same as the whole
 abbrev pub GoesOn : Names → State → ℕ → plans.Imports → State → Type 0
 GoesOn names initial i so_far now =
-    (new : State) (r : Result Imports Stop) → DoesTold imports_of (λ told. load_all told so_far (paths_from names i)) now new r → DoesTold imports_of (λ told. load_all told ([], []) (paths_from names 0)) initial new r
+    (new : State) (r : Result Imports Stop) → DoesSeen imports_of (λ told. load_all told so_far (paths_from names i)) now new r → DoesSeen imports_of (λ told. load_all told ([], []) (paths_from names 0)) initial new r
 
 loads_one : (path : Text) (rest : List Text) (so_far : plans.Imports) (files mid : Option Files) (asked mid_asked : Calls) (new : State) (l : Loaded) (r : Result Imports Stop) → mid ≡ files
-    → DoesTold loaded_of (λ told. load told path) (state files asked) (state mid mid_asked) (Ok l) → DoesTold imports_of (λ told. load_all told (with_loaded so_far (loaded_of l)) rest) (state mid mid_asked) new r
-    → DoesTold imports_of (λ told. load_all told so_far (path ∷ rest)) (state files asked) new r
+    → DoesSeen loaded_of (λ told. load told path) (state files asked) (state mid mid_asked) (Ok l) → DoesSeen imports_of (λ told. load_all told (with_loaded so_far (loaded_of l)) rest) (state mid mid_asked) new r
+    → DoesSeen imports_of (λ told. load_all told so_far (path ∷ rest)) (state files asked) new r
 unfolding load_all
 loads_one path rest so_far files mid asked mid_asked new l r same d e =
     told_then loaded_of imports_of (λ told. load told path) (λ told one. load_all told (with_loaded so_far one) rest) files mid asked mid_asked new l r same d e
 
-stops_one : (path : Text) (rest : List Text) (so_far : plans.Imports) (files : Option Files) (asked : Calls) (new : State) (s : Stop) → DoesTold loaded_of (λ told. load told path) (state files asked) new (Err s)
-    → DoesTold imports_of (λ told. load_all told so_far (path ∷ rest)) (state files asked) new (Err s)
+stops_one : (path : Text) (rest : List Text) (so_far : plans.Imports) (files : Option Files) (asked : Calls) (new : State) (s : Stop) → DoesSeen loaded_of (λ told. load told path) (state files asked) new (Err s)
+    → DoesSeen imports_of (λ told. load_all told so_far (path ∷ rest)) (state files asked) new (Err s)
 unfolding load_all
 stops_one path rest so_far files asked new s d = told_stop loaded_of imports_of (λ told. load told path) (λ told one. load_all told (with_loaded so_far one) rest) files asked new s d
 
 pub goes_next : (names : Names) (initial : State) (files mid : Option Files) (asked mid_asked : Calls) (i : ℕ) (d : String Global) (so_far : plans.Imports) (l : Loaded) → i < length names → mid ≡ files
-    → GoesOn names initial i so_far (state files asked) → DoesTold loaded_of (λ told. load told (string_bytes (get_or names i d))) (state files asked) (state mid mid_asked) (Ok l) → GoesOn names initial (i + 1) (with_loaded so_far (loaded_of l)) (state mid mid_asked)
+    → GoesOn names initial i so_far (state files asked) → DoesSeen loaded_of (λ told. load told (string_bytes (get_or names i d))) (state files asked) (state mid mid_asked) (Ok l) → GoesOn names initial (i + 1) (with_loaded so_far (loaded_of l)) (state mid mid_asked)
 goes_next names initial files mid asked mid_asked i d so_far l h same rest read = λ new r does.
-    let P : List Text → Type 0 = λ ns. DoesTold imports_of (λ told. load_all told so_far ns) (state files asked) new r in
+    let P : List Text → Type 0 = λ ns. DoesSeen imports_of (λ told. load_all told so_far ns) (state files asked) new r in
     rest new r (subst P (sym (path_here names i d h)) (loads_one (string_bytes (get_or names i d)) (paths_from names (i + 1)) so_far files mid asked mid_asked new l r same read does))
 
 pub goes_stop : (names : Names) (initial : State) (files : Option Files) (asked : Calls) (new : State) (i : ℕ) (d : String Global) (so_far : plans.Imports) (s : Stop) → i < length names
-    → GoesOn names initial i so_far (state files asked) → DoesTold loaded_of (λ told. load told (string_bytes (get_or names i d))) (state files asked) new (Err s) → DoesTold imports_of (λ told. load_all told ([], []) (paths_from names 0)) initial new (Err s)
+    → GoesOn names initial i so_far (state files asked) → DoesSeen loaded_of (λ told. load told (string_bytes (get_or names i d))) (state files asked) new (Err s) → DoesSeen imports_of (λ told. load_all told ([], []) (paths_from names 0)) initial new (Err s)
 goes_stop names initial files asked new i d so_far s h rest read =
-    let P : List Text → Type 0 = λ ns. DoesTold imports_of (λ told. load_all told so_far ns) (state files asked) new (Err s) in
+    let P : List Text → Type 0 = λ ns. DoesSeen imports_of (λ told. load_all told so_far ns) (state files asked) new (Err s) in
     rest new (Err s) (subst P (sym (path_here names i d h)) (stops_one (string_bytes (get_or names i d)) (paths_from names (i + 1)) so_far files asked new s read))
 
 pub goes_none : (names : Names) (initial : State) (files : Option Files) (asked : Calls) (i : ℕ) (so_far : plans.Imports) → GoesOn names initial i so_far (state files asked)
-    → DoesTold imports_of (λ told. load_all told ([], []) (paths_from names 0)) initial (state files asked) (Err stop.NoMemory)
+    → DoesSeen imports_of (λ told. load_all told ([], []) (paths_from names 0)) initial (state files asked) (Err stop.NoMemory)
 goes_none names initial files asked i so_far rest = rest (state files asked) (Err stop.NoMemory) (told_none imports_of (λ told. load_all told so_far (paths_from names i)) files asked)
 
-all_loaded : (i : Imports) (files : Option Files) (asked : Calls) → DoesTold imports_of (λ told. load_all told (imports_of i) []) (state files asked) (state files asked) (Ok i)
+all_loaded : (i : Imports) (files : Option Files) (asked : Calls) → DoesSeen imports_of (λ told. load_all told (imports_of i) []) (state files asked) (state files asked) (Ok i)
 unfolding load_all
 all_loaded i files asked = told_done imports_of (imports_of i) i files asked refl
 
 pub goes_last : (names : Names) (initial : State) (files : Option Files) (asked : Calls) (i : ℕ) (v : Imports) → drop i names ≡ [] → GoesOn names initial i (imports_of v) (state files asked)
-    → DoesTold imports_of (λ told. load_all told ([], []) (paths_from names 0)) initial (state files asked) (Ok v)
+    → DoesSeen imports_of (λ told. load_all told ([], []) (paths_from names 0)) initial (state files asked) (Ok v)
 goes_last names initial files asked i v end rest =
-    let P : List Text → Type 0 = λ ns. DoesTold imports_of (λ told. load_all told (imports_of v) ns) (state files asked) (state files asked) (Ok v) in
+    let P : List Text → Type 0 = λ ns. DoesSeen imports_of (λ told. load_all told (imports_of v) ns) (state files asked) (state files asked) (Ok v) in
     rest (state files asked) (Ok v) (subst P (sym (ap (map string_bytes) end)) (all_loaded v files asked))
 
 -- ---- their paths

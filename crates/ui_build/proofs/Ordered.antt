@@ -38,7 +38,7 @@ pub record CompilesOn (files : Files) (names : Names) (initial : State) (i : ℕ
   pub sorted : IsInOrder files (before names i) (paths_from names i)
   pub rest : (new : State) (r : Result (Unit {0}) Stop) → Carries (Compiled files (map string_bytes names) new.files) (compile_all files packages (paths_from names i)) now new r → Carries (Compiled files (map string_bytes names) new.files) (compile_all files empty (paths_from names 0)) initial new r
 
-no_key : (q : Text) → contains_key (empty {X = Entry} {R = slice_cmp nat_cmp}) q ≡ false
+pub no_key : (q : Text) → contains_key (empty {X = Entry} {R = slice_cmp nat_cmp}) q ≡ false
 no_key q = ap is_some (get-empty (slice_cmp nat_cmp) q)
 
 nothing_built : (files : Files) → AreBuilt files empty
@@ -96,7 +96,7 @@ or_key true false o e h = refl
 or_key false true o e h = h
 or_key false false o e h = h
 
-keys_more : (packages : Packages) (so_far : List Text) (path : Text) (entry : Entry) → ((q : Text) → contains_key packages q ≡ has bytes_eq so_far q) → (q : Text) → contains_key (insert packages path entry) q ≡ has bytes_eq (so_far ++ path ∷ []) q
+pub keys_more : (packages : Packages) (so_far : List Text) (path : Text) (entry : Entry) → ((q : Text) → contains_key packages q ≡ has bytes_eq so_far q) → (q : Text) → contains_key (insert packages path entry) q ≡ has bytes_eq (so_far ++ path ∷ []) q
 keys_more packages so_far path entry keys q =
     ap is_some (get-insert nat_list_cmp_total packages path entry q) ∙ or_key (same_name q path) (has bytes_eq so_far q) (get packages q) entry (keys q)
     ∙ ap (λ b. has bytes_eq so_far q || (b || false)) (sym (bytes_same q path)) ∙ sym (list_any-append (bytes_eq q) so_far (path ∷ []))

@@ -9,7 +9,7 @@ use Rattle.ui_build.specs.Plan.{Text, NoFile, done, refused}
 use Rattle.ui_sources.specs.Sources.{Source, source_of}
 use Rattle.ui_build.specs.Package.{is_source, file_in, read_source, read_sources, some_source}
 use Rattle.ui_build.specs.Sources.{sources_of}
-use Rattle.ui_build.specs.Stops.{State, state, DoesTold}
+use Rattle.ui_build.specs.Stops.{State, state, DoesSeen}
 use Rattle.ui_sources.specs.declared.source.Source.{Source as InMemory}
 use Rattle.ui_build.specs.declared.stop.Stop.{Stop}
 use Rattle.ui_build.specs.declared.stop.Stop.TheVariants as stop
@@ -34,47 +34,47 @@ source_here names i d h e = from_place names i d h ∙ ap (λ b. cond b (string_
 -- what is left to read does the same as the whole
 abbrev pub Continues : Text → Names → State → ℕ → List Source → State → Type 0
 Continues folder names initial i sources now =
-    (new : State) (r : Result (Vec InMemory Global) Stop) → DoesTold sources_of (λ told. read_sources told folder sources (sources_from names i)) now new r → DoesTold sources_of (λ told. read_sources told folder [] (sources_from names 0)) initial new r
+    (new : State) (r : Result (Vec InMemory Global) Stop) → DoesSeen sources_of (λ told. read_sources told folder sources (sources_from names i)) now new r → DoesSeen sources_of (λ told. read_sources told folder [] (sources_from names 0)) initial new r
 
 pub continues_first : (folder : Text) (names : Names) (initial : State) → Continues folder names initial 0 [] initial
 continues_first folder names initial = λ new r d. d
 
 pub continues_past : (folder : Text) (names : Names) (initial now : State) (i : ℕ) (d : String Global) (sources : List Source) → i < length names → is_source (string_bytes (get_or names i d)) ≡ false → Continues folder names initial i sources now → Continues folder names initial (i + 1) sources now
 continues_past folder names initial now i d sources h is_none rest = λ new r does.
-    let P : List Text → Type 0 = λ ns. DoesTold sources_of (λ told. read_sources told folder sources ns) now new r in
+    let P : List Text → Type 0 = λ ns. DoesSeen sources_of (λ told. read_sources told folder sources ns) now new r in
     rest new r (subst P (sym (no_source_here names i d h is_none)) does)
 
 -- one source was read
 reads_one : (folder name : Text) (names : List Text) (sources : List Source) (files mid : Option Files) (asked mid_asked : Calls) (new : State) (s : InMemory) (r : Result (Vec InMemory Global) Stop) → mid ≡ files
-    → DoesTold source_of (λ told. read_source told (file_in folder name)) (state files asked) (state mid mid_asked) (Ok s) → DoesTold sources_of (λ told. read_sources told folder (sources ++ source_of s ∷ []) names) (state mid mid_asked) new r
-    → DoesTold sources_of (λ told. read_sources told folder sources (name ∷ names)) (state files asked) new r
+    → DoesSeen source_of (λ told. read_source told (file_in folder name)) (state files asked) (state mid mid_asked) (Ok s) → DoesSeen sources_of (λ told. read_sources told folder (sources ++ source_of s ∷ []) names) (state mid mid_asked) new r
+    → DoesSeen sources_of (λ told. read_sources told folder sources (name ∷ names)) (state files asked) new r
 unfolding read_sources
 reads_one folder name names sources files mid asked mid_asked new s r same d e =
     told_then source_of sources_of (λ told. read_source told (file_in folder name)) (λ told s. read_sources told folder (sources ++ s ∷ []) names) files mid asked mid_asked new s r same d e
 
-stops_one : (folder name : Text) (names : List Text) (sources : List Source) (files : Option Files) (asked : Calls) (new : State) (s : Stop) → DoesTold source_of (λ told. read_source told (file_in folder name)) (state files asked) new (Err s)
-    → DoesTold sources_of (λ told. read_sources told folder sources (name ∷ names)) (state files asked) new (Err s)
+stops_one : (folder name : Text) (names : List Text) (sources : List Source) (files : Option Files) (asked : Calls) (new : State) (s : Stop) → DoesSeen source_of (λ told. read_source told (file_in folder name)) (state files asked) new (Err s)
+    → DoesSeen sources_of (λ told. read_sources told folder sources (name ∷ names)) (state files asked) new (Err s)
 unfolding read_sources
 stops_one folder name names sources files asked new s d =
     told_stop source_of sources_of (λ told. read_source told (file_in folder name)) (λ told s. read_sources told folder (sources ++ s ∷ []) names) files asked new s d
 
 pub continues_next : (folder : Text) (names : Names) (initial : State) (files mid : Option Files) (asked mid_asked : Calls) (i : ℕ) (d : String Global) (sources : List Source) (s : InMemory) → i < length names → is_source (string_bytes (get_or names i d)) ≡ true → mid ≡ files
-    → Continues folder names initial i sources (state files asked) → DoesTold source_of (λ told. read_source told (file_in folder (string_bytes (get_or names i d)))) (state files asked) (state mid mid_asked) (Ok s)
+    → Continues folder names initial i sources (state files asked) → DoesSeen source_of (λ told. read_source told (file_in folder (string_bytes (get_or names i d)))) (state files asked) (state mid mid_asked) (Ok s)
     → Continues folder names initial (i + 1) (sources ++ source_of s ∷ []) (state mid mid_asked)
 continues_next folder names initial files mid asked mid_asked i d sources s h is_one same rest read = λ new r does.
-    let P : List Text → Type 0 = λ ns. DoesTold sources_of (λ told. read_sources told folder sources ns) (state files asked) new r in
+    let P : List Text → Type 0 = λ ns. DoesSeen sources_of (λ told. read_sources told folder sources ns) (state files asked) new r in
     rest new r (subst P (sym (source_here names i d h is_one)) (reads_one folder (string_bytes (get_or names i d)) (sources_from names (i + 1)) sources files mid asked mid_asked new s r same read does))
 
 pub continues_stop : (folder : Text) (names : Names) (initial : State) (files : Option Files) (asked : Calls) (new : State) (i : ℕ) (d : String Global) (sources : List Source) (s : Stop) → i < length names → is_source (string_bytes (get_or names i d)) ≡ true
-    → Continues folder names initial i sources (state files asked) → DoesTold source_of (λ told. read_source told (file_in folder (string_bytes (get_or names i d)))) (state files asked) new (Err s)
-    → DoesTold sources_of (λ told. read_sources told folder [] (sources_from names 0)) initial new (Err s)
+    → Continues folder names initial i sources (state files asked) → DoesSeen source_of (λ told. read_source told (file_in folder (string_bytes (get_or names i d)))) (state files asked) new (Err s)
+    → DoesSeen sources_of (λ told. read_sources told folder [] (sources_from names 0)) initial new (Err s)
 continues_stop folder names initial files asked new i d sources s h is_one rest read =
-    let P : List Text → Type 0 = λ ns. DoesTold sources_of (λ told. read_sources told folder sources ns) (state files asked) new (Err s) in
+    let P : List Text → Type 0 = λ ns. DoesSeen sources_of (λ told. read_sources told folder sources ns) (state files asked) new (Err s) in
     rest new (Err s) (subst P (sym (source_here names i d h is_one)) (stops_one folder (string_bytes (get_or names i d)) (sources_from names (i + 1)) sources files asked new s read))
 
 -- memory ran out
 pub continues_none : (folder : Text) (names : Names) (initial : State) (files : Option Files) (asked : Calls) (i : ℕ) (sources : List Source) → Continues folder names initial i sources (state files asked)
-    → DoesTold sources_of (λ told. read_sources told folder [] (sources_from names 0)) initial (state files asked) (Err stop.NoMemory)
+    → DoesSeen sources_of (λ told. read_sources told folder [] (sources_from names 0)) initial (state files asked) (Err stop.NoMemory)
 continues_none folder names initial files asked i sources rest = rest (state files asked) (Err stop.NoMemory) (told_none sources_of (λ told. read_sources told folder sources (sources_from names i)) files asked)
 
 pub nothing_left : {X : Type 0} (xs : List X) (i : ℕ) → length xs ≤ i → drop i xs ≡ []
@@ -84,7 +84,7 @@ nothing_left (x ∷ xs) zero h = absurd (omega (arith, h))
 nothing_left (x ∷ xs) (suc i) h = nothing_left xs i (omega (arith, h))
 
 -- no names are left
-all_read : (folder : Text) (v : Vec InMemory Global) (files : Option Files) (asked : Calls) → DoesTold sources_of (λ told. read_sources told folder (sources_of v) []) (state files asked) (state files asked) (Ok v)
+all_read : (folder : Text) (v : Vec InMemory Global) (files : Option Files) (asked : Calls) → DoesSeen sources_of (λ told. read_sources told folder (sources_of v) []) (state files asked) (state files asked) (Ok v)
 unfolding read_sources
 all_read folder v files asked = told_done sources_of (sources_of v) v files asked refl
 
@@ -92,9 +92,9 @@ none_from : (names : Names) (i : ℕ) → drop i names ≡ [] → sources_from n
 none_from names i e = ap (λ ns. filter is_source (map string_bytes ns)) e
 
 pub continues_last : (folder : Text) (names : Names) (initial : State) (files : Option Files) (asked : Calls) (i : ℕ) (v : Vec InMemory Global) → drop i names ≡ [] → Continues folder names initial i (sources_of v) (state files asked)
-    → DoesTold sources_of (λ told. read_sources told folder [] (sources_from names 0)) initial (state files asked) (Ok v)
+    → DoesSeen sources_of (λ told. read_sources told folder [] (sources_from names 0)) initial (state files asked) (Ok v)
 continues_last folder names initial files asked i v end rest =
-    let P : List Text → Type 0 = λ ns. DoesTold sources_of (λ told. read_sources told folder (sources_of v) ns) (state files asked) (state files asked) (Ok v) in
+    let P : List Text → Type 0 = λ ns. DoesSeen sources_of (λ told. read_sources told folder (sources_of v) ns) (state files asked) (state files asked) (Ok v) in
     rest (state files asked) (Ok v) (subst P (sym (none_from names i end)) (all_read folder v files asked))
 
 -- ---- a folder with or without sources

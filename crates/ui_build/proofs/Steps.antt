@@ -1,11 +1,13 @@
 -- How steps join: what the first did and what the next did is what both together are to do.
-use Rattle.std.proofs.Common.{◌≡◌, ◌∙◌, ap, sym, subst, refl, List, [], ◌∷◌, ◌++◌, ◌⊎◌, inl, inr, Option, Some, None, IfSome, Result, Ok, Err, append_assoc, append-nil}
+use Rattle.std.proofs.lemmas.List.{take_all}
+use Rattle.std.proofs.Common.{◌≡◌, ℕ, length, take, arith, ◌∙◌, ap, sym, subst, refl, List, [], ◌∷◌, ◌++◌, ◌⊎◌, inl, inr, Option, Some, None, IfSome, Result, Ok, Err, append_assoc, append-nil}
 use Rattle.ui_store.specs.Told.{more, more_none, more_twice}
 use Rattle.ui_store.specs.Files.{Files, put}
 use Rattle.ui_store.specs.Calls.{Ask, Calls, Torn}
 use Rattle.ui_store.specs.declared.store.AskKind.TheVariants as ask
 use Rattle.ui_build.specs.Plan.{Text, Refusal, Entry, Put, Plan, done, refused, settled, next, ◌>>=◌, asking, writing}
-use Rattle.ui_build.specs.Stops.{State, state, Puts, PutsFront, AsksFront, IsFileOf, Ends, Stops, DoesStop, Does, DoesTold, Carries, Settles, SettlesStop, refusal_of}
+use Rattle.ui_build.specs.Stops.{State, state, with_both, Puts, PutsFront, AsksFront, IsFileOf, Ends, Stops, DoesStop, Does, DoesSeen, Carries, Settles, SettlesStop, refusal_of}
+use Rattle.ui_build.specs.Heard.{IsNoRefusal}
 use Rattle.ui_build.specs.declared.stop.Refusal.{Refusal as Told}
 use Rattle.ui_build.specs.declared.stop.Stop.{Stop}
 use Rattle.ui_build.specs.declared.stop.Stop.TheVariants as stop
@@ -37,21 +39,21 @@ puts_none (p ∷ ps) old new e = inl e
 
 pub puts_all : (puts : List Put) (old new : Option Files) → Puts puts old new → PutsFront puts old new
 puts_all [] old new e = e
-puts_all (p ∷ ps) old new e = inr (e.0, e.1, inr (puts_all ps (put old p.0 e.0) new e.2))
+puts_all (p ∷ ps) old new e = inr (e.0, e.1, inr (puts_all ps (with_both p e.0 old) new e.2))
 
 pub puts_first : (a b : List Put) (old new : Option Files) → PutsFront a old new → PutsFront (a ++ b) old new
 puts_first [] b old new e = puts_none b old new e
 puts_first (p ∷ ps) b old new (inl e) = inl e
 puts_first (p ∷ ps) b old new (inr (bytes, file, inl torn)) = inr (bytes, file, inl torn)
-puts_first (p ∷ ps) b old new (inr (bytes, file, inr rest)) = inr (bytes, file, inr (puts_first ps b (put old p.0 bytes) new rest))
+puts_first (p ∷ ps) b old new (inr (bytes, file, inr rest)) = inr (bytes, file, inr (puts_first ps b (with_both p bytes old) new rest))
 
 pub puts_append : (a b : List Put) (old mid new : Option Files) → Puts a old mid → Puts b mid new → Puts (a ++ b) old new
 puts_append [] b old mid new e q = let P : Option Files → Type 0 = λ o. Puts b o new in subst P e q
-puts_append (p ∷ ps) b old mid new e q = (e.0, e.1, puts_append ps b (put old p.0 e.0) mid new e.2 q)
+puts_append (p ∷ ps) b old mid new e q = (e.0, e.1, puts_append ps b (with_both p e.0 old) mid new e.2 q)
 
 pub puts_next : (a b : List Put) (old mid new : Option Files) → Puts a old mid → PutsFront b mid new → PutsFront (a ++ b) old new
 puts_next [] b old mid new e q = let P : Option Files → Type 0 = λ o. PutsFront b o new in subst P e q
-puts_next (p ∷ ps) b old mid new e q = inr (e.0, e.1, inr (puts_next ps b (put old p.0 e.0) mid new e.2 q))
+puts_next (p ∷ ps) b old mid new e q = inr (e.0, e.1, inr (puts_next ps b (with_both p e.0 old) mid new e.2 q))
 
 -- ---- steps
 
@@ -133,13 +135,13 @@ does_settled view want s (Err st) e = settled_stop want s st e
 -- ---- the same where the plans are by the files that a store may tell
 
 pub told_stop : {A B X Y : Type 0} (view : A → X) (next_view : B → Y) (p : Files → Plan X) (f : Files → X → Plan Y) (files : Option Files) (asked : Calls) (new : State) (s : Stop)
-    → DoesTold view p (state files asked) new (Err s) → DoesTold next_view (λ told. p told >>= f told) (state files asked) new (Err s)
+    → DoesSeen view p (state files asked) new (Err s) → DoesSeen next_view (λ told. p told >>= f told) (state files asked) new (Err s)
 told_stop view next_view p f None asked new s d = tt
 told_stop view next_view p f (Some told) asked new s d = does_stop (p told) (f told) (state (Some told) asked) new s d
 
 -- a step that left the files, and the next
 pub told_then : {A B X Y : Type 0} (view : A → X) (next_view : B → Y) (p : Files → Plan X) (f : Files → X → Plan Y) (files mid : Option Files) (asked mid_asked : Calls) (new : State) (a : A) (r : Result B Stop) → mid ≡ files
-    → DoesTold view p (state files asked) (state mid mid_asked) (Ok a) → DoesTold next_view (λ told. f told (view a)) (state mid mid_asked) new r → DoesTold next_view (λ told. p told >>= f told) (state files asked) new r
+    → DoesSeen view p (state files asked) (state mid mid_asked) (Ok a) → DoesSeen next_view (λ told. f told (view a)) (state mid mid_asked) new r → DoesSeen next_view (λ told. p told >>= f told) (state files asked) new r
 told_then view next_view p f None mid asked mid_asked new a r same d e = tt
 told_then view next_view p f (Some told) mid asked mid_asked new a r same d e =
     let P : Option Files → Type 0 = λ m. IfSome m (λ t. Does next_view (f t (view a)) (state m mid_asked) new r) in
@@ -147,14 +149,14 @@ told_then view next_view p f (Some told) mid asked mid_asked new a r same d e =
     does_then view next_view (p told) (f told) (state (Some told) asked) (state (Some told) mid_asked) new a r (subst Q same d) (subst P same e)
 
 -- a step by no files
-pub told_always : {A X : Type 0} (view : A → X) (p : Plan X) (old new : State) (r : Result A Stop) → Does view p old new r → DoesTold view (λ _. p) old new r
+pub told_always : {A X : Type 0} (view : A → X) (p : Plan X) (old new : State) (r : Result A Stop) → Does view p old new r → DoesSeen view (λ _. p) old new r
 told_always view p old new r d = at old.files
   where
     at : (files : Option Files) → IfSome files (λ _. Does view p old new r)
     at None = tt
     at (Some told) = d
 
-pub told_none : {A X : Type 0} (view : A → X) (p : Files → Plan X) (files : Option Files) (asked : Calls) → DoesTold view p (state files asked) (state files asked) (Err stop.NoMemory)
+pub told_none : {A X : Type 0} (view : A → X) (p : Files → Plan X) (files : Option Files) (asked : Calls) → DoesSeen view p (state files asked) (state files asked) (Err stop.NoMemory)
 told_none view p None asked = tt
 told_none view p (Some told) asked = stops_none (p told) (state (Some told) asked)
 
@@ -165,20 +167,54 @@ asks_maybe call old new (inl e) = asks_none (call ∷ []) old new e
 asks_maybe call old new (inr e) = asks_all (call ∷ []) old new e
 
 pub told_maybe : {A X : Type 0} (view : A → X) (call : Ask) (value : Files → Result X Refusal) (files mid : Option Files) (old new : Calls) → mid ≡ files → (new ≡ old) ⊎ (new ≡ more old (call ∷ []))
-    → DoesTold view (λ told. asking call (value told)) (state files old) (state mid new) (Err stop.NoMemory)
+    → DoesSeen view (λ told. asking call (value told)) (state files old) (state mid new) (Err stop.NoMemory)
 told_maybe view call value None mid old new same asked = tt
 told_maybe view call value (Some told) mid old new same asked = record { asked = asks_maybe call old new asked; files = same }
 
-torn_maybe : (name bytes : Text) (entry : Entry) (old new : Option Files) → IsFileOf old bytes entry → Torn old new name bytes → PutsFront ((name, entry) ∷ []) old new
-torn_maybe name bytes entry old new file (inl e) = inl e
-torn_maybe name bytes entry old new file (inr torn) = inr (bytes, file, inl torn)
+-- the first of the two writes of a package was stopped
+pub first_stops : (p : Put) (bytes : Text) (files mid : Option Files) (old new : Calls) → IsFileOf files bytes p.entry → (new ≡ old) ⊎ (new ≡ more old ((ask.Write, p.unit) ∷ [])) → Torn files mid p.unit bytes → Stops (writing p) (state files old) (state mid new)
+first_stops p bytes files mid old new file asked torn = record { asked = one asked; files = front torn }
+  where
+    one : (new ≡ old) ⊎ (new ≡ more old ((ask.Write, p.unit) ∷ [])) → AsksFront (writing p).asks old new
+    one (inl e) = asks_none (writing p).asks old new e
+    one (inr e) = record { front = (ask.Write, p.unit) ∷ []; rest = (ask.Write, p.linked) ∷ []; whole = refl; asked = e }
 
-pub torn_stops : (name bytes : Text) (entry : Entry) (files mid : Option Files) (old new : Calls) → IsFileOf files bytes entry → (new ≡ old) ⊎ (new ≡ more old ((ask.Write, name) ∷ [])) → Torn files mid name bytes → Stops (writing name entry) (state files old) (state mid new)
-torn_stops name bytes entry files mid old new file asked torn = record { asked = asks_maybe (ask.Write, name) old new asked; files = torn_maybe name bytes entry files mid file torn }
+    front : Torn files mid p.unit bytes → PutsFront (p ∷ []) files mid
+    front (inl e) = inl e
+    front (inr (n, e)) = inr (bytes, file, inl (inl (n, e)))
+
+-- the second of them
+pub second_stops : (p : Put) (bytes : Text) (files one two : Option Files) (old mid new : Calls) → IsFileOf files bytes p.entry → mid ≡ more old ((ask.Write, p.unit) ∷ []) → one ≡ put files p.unit bytes → (new ≡ mid) ⊎ (new ≡ more mid ((ask.Write, p.linked) ∷ [])) → Torn one two p.linked bytes → Stops (writing p) (state files old) (state two new)
+second_stops p bytes files one two old mid new file first written asked torn = record { asked = both asked; files = front torn }
+  where
+    both : (new ≡ mid) ⊎ (new ≡ more mid ((ask.Write, p.linked) ∷ [])) → AsksFront (writing p).asks old new
+    both (inl e) = record { front = (ask.Write, p.unit) ∷ []; rest = (ask.Write, p.linked) ∷ []; whole = refl; asked = e ∙ first }
+    both (inr e) = asks_all (writing p).asks old new (e ∙ ap (λ o. more o ((ask.Write, p.linked) ∷ [])) first ∙ more_twice old ((ask.Write, p.unit) ∷ []) ((ask.Write, p.linked) ∷ []))
+
+    whole : one ≡ put files p.unit (take (length bytes) bytes)
+    whole = written ∙ ap (put files p.unit) (sym (take_all (length bytes) bytes (omega arith)))
+
+    front : Torn one two p.linked bytes → PutsFront (p ∷ []) files two
+    front (inl e) = inr (bytes, file, inl (inl (length bytes, e ∙ whole)))
+    front (inr (n, e)) = inr (bytes, file, inl (inr (n, e ∙ ap (λ o. put o p.linked (take n bytes)) written)))
+
+-- both were done
+pub both_end : (p : Put) (bytes : Text) (files one two : Option Files) (old mid new : Calls) → IsFileOf files bytes p.entry → mid ≡ more old ((ask.Write, p.unit) ∷ []) → one ≡ put files p.unit bytes → new ≡ more mid ((ask.Write, p.linked) ∷ []) → two ≡ put one p.linked bytes → Ends (writing p) (state files old) (state two new)
+both_end p bytes files one two old mid new file first written second last = record {
+  asked = second ∙ ap (λ o. more o ((ask.Write, p.linked) ∷ [])) first ∙ more_twice old ((ask.Write, p.unit) ∷ []) ((ask.Write, p.linked) ∷ []);
+  files = (bytes, file, last ∙ ap (λ o. put o p.linked bytes) written);
+}
+
+-- a step that is stopped by no refusal does what its plan says where it did a front of it
+pub no_refusal_stops : {X : Type 0} (plan : Plan X) (old new : State) (s : Stop) → IsNoRefusal s → Stops plan old new → DoesStop plan old new s
+no_refusal_stops plan old new (stop.Refused r) is stops = absurd is
+no_refusal_stops plan old new (stop.ReadFault n) is stops = stops
+no_refusal_stops plan old new (stop.WriteFault n) is stops = stops
+no_refusal_stops plan old new stop.NoMemory is stops = stops
 
 -- ---- more on told files
 
-pub told_done : {A X : Type 0} (view : A → X) (x : X) (a : A) (files : Option Files) (asked : Calls) → x ≡ view a → DoesTold view (λ _. done x) (state files asked) (state files asked) (Ok a)
+pub told_done : {A X : Type 0} (view : A → X) (x : X) (a : A) (files : Option Files) (asked : Calls) → x ≡ view a → DoesSeen view (λ _. done x) (state files asked) (state files asked) (Ok a)
 told_done view x a None asked e = tt
 told_done view x a (Some told) asked e = (ap Ok e, ends_none x (state (Some told) asked))
 
@@ -188,13 +224,13 @@ pub told_both : {A B X Y : Type 0} (view : A → X) (next_view : B → Y) (p : F
 told_both view next_view p q None old mid new a r d e = tt
 told_both view next_view p q (Some told) old mid new a r d e = does_then view next_view (p told) q old mid new a r d e
 
-pub told_refused : {A X : Type 0} (view : A → X) (r : Refusal) (x : Told) (files : Option Files) (asked : Calls) → r ≡ refusal_of x → DoesTold view (λ _. refused r) (state files asked) (state files asked) (Err (stop.Refused x))
+pub told_refused : {A X : Type 0} (view : A → X) (r : Refusal) (x : Told) (files : Option Files) (asked : Calls) → r ≡ refusal_of x → DoesSeen view (λ _. refused r) (state files asked) (state files asked) (Err (stop.Refused x))
 told_refused view r x None asked e = tt
 told_refused view r x (Some told) asked e = (ap Err e, record { asked = sym (more_none asked); files = refl })
 
 -- a step, and a result of no step
 pub told_settled : {A B X Y : Type 0} (view : A → X) (next_view : B → Y) (p : Files → Plan X) (want : X → Result Y Refusal) (files mid : Option Files) (asked mid_asked : Calls) (a : A) (r : Result B Stop) → mid ≡ files
-    → DoesTold view p (state files asked) (state mid mid_asked) (Ok a) → Settles next_view (want (view a)) r → DoesTold next_view (λ told. p told >>= λ x. settled (want x)) (state files asked) (state mid mid_asked) r
+    → DoesSeen view p (state files asked) (state mid mid_asked) (Ok a) → Settles next_view (want (view a)) r → DoesSeen next_view (λ told. p told >>= λ x. settled (want x)) (state files asked) (state mid mid_asked) r
 told_settled view next_view p want files mid asked mid_asked a r same d s =
     told_then view next_view p (λ told x. settled (want x)) files mid asked mid_asked (state mid mid_asked) a r same d
     (told_always next_view (settled (want (view a))) (state mid mid_asked) (state mid mid_asked) r (does_settled next_view (want (view a)) (state mid mid_asked) r s))

@@ -118,14 +118,15 @@ are_built told packages path one two new apart own below file before = λ q entr
 
 -- the same by the files that the plan of a package wrote
 abbrev both_files : Text → Entry → List Put
-both_files path entry = (unit_file path, entry) ∷ (linked_file path, entry) ∷ []
+both_files path entry = record { unit = unit_file path; linked = linked_file path; entry = entry } ∷ []
 
 pub stands_put : (files told : Files) (packages : Packages) (path : Text) (new : Entry) (now : Option Files) → contains_key packages path ≡ false → new.export.path ≡ path → AllByRecursion (λ b. contains_key packages b.0 ≡ true) new.below
     → Puts (both_files path new) (Some told) now → SameSources files told → AreBuilt told packages → Stands files now (insert packages path new)
 unfolding put
-stands_put files told packages path new now apart own below puts same built = (
-  written told path puts.0 puts.2.0,
-  puts.2.2,
-  keeps_sources files (insert told (unit_file path) puts.0) (linked_file path) puts.2.0 (linked_elsewhere path) (keeps_sources files told (unit_file path) puts.0 (unit_elsewhere path) same),
-  are_built told packages path puts.0 puts.2.0 new apart own below puts.2.1 built,
-)
+stands_put files told packages path new now apart own below puts same built =
+    let file : IsFileOf (Some (insert told (unit_file path) puts.0)) puts.0 new = file_over (insert told (unit_file path) puts.0) told puts.0 new (linked_unit told path puts.0 new) puts.1 in (
+      written told path puts.0 puts.0,
+      puts.2,
+      keeps_sources files (insert told (unit_file path) puts.0) (linked_file path) puts.0 (linked_elsewhere path) (keeps_sources files told (unit_file path) puts.0 (unit_elsewhere path) same),
+      are_built told packages path puts.0 puts.0 new apart own below file built,
+    )

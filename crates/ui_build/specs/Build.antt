@@ -85,7 +85,7 @@ judged files packages path = read_form files path >>= λ form. reads (imported f
 
 -- the files of a package are written: both stand for the same
 abbrev pub write_files : Text → Entry → Plan (Unit {0})
-write_files path entry = writing (unit_file path) entry >>= λ _. writing (linked_file path) entry
+write_files path entry = writing (record { unit = unit_file path; linked = linked_file path; entry = entry })
 
 -- a package is compiled from its own sources and what the packages before stand for
 abbrev pub compile : Files → Packages → Text → Plan Entry

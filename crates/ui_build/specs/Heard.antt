@@ -3,6 +3,7 @@
 use Rattle.std.specs.Prelude.{◌≡◌, ◌⊎◌, List, [], ◌∷◌, ◌++◌, map, filter, Option, Some, None, Result, Ok, Err, IfErr, ⊤}
 use Rattle.ui_store.specs.Told.{more}
 use Rattle.ui_store.specs.Calls.{Hearing, Hearings}
+use Rattle.ui_store.specs.Views.{StoreView}
 use Rattle.ui_store.specs.declared.store.AskKind.TheVariants as ask
 use Rattle.ui_store.specs.declared.store.Given.{Given}
 use Rattle.ui_store.specs.declared.store.Given.TheVariants as given
@@ -176,8 +177,8 @@ IsNoRefusal (stop.ReadFault name) = ⊤
 IsNoRefusal (stop.WriteFault name) = ⊤
 IsNoRefusal stop.NoMemory = ⊤
 
-pub record HearsNothing {X : Type 0} (old new : Hearings) (result : Result X Stop) : Type 0 where
-  pub told : new ≡ old
+pub record HearsNothing {X : Type 0} (old new : StoreView) (result : Result X Stop) : Type 0 where
+  pub told : new.heard ≡ old.heard
   pub stop : IfErr result IsNoRefusal
 
 abbrev pub EndsBy : {X : Type 0} → (X → List Hearing → Type 0) → Result X Stop → List Hearing → Type 0
@@ -185,10 +186,13 @@ EndsBy gives (Ok x) heard = gives x heard
 EndsBy gives (Err s) heard = StoppedBy s heard
 
 -- What a step heard, and that it ended by that: it gave a value as said of the value, or was stopped.
-pub record Hears {X : Type 0} (gives : X → List Hearing → Type 0) (old new : Hearings) (result : Result X Stop) : Type 0 where
+pub record HearsIn {X : Type 0} (gives : X → List Hearing → Type 0) (old new : Hearings) (result : Result X Stop) : Type 0 where
   pub heard : List Hearing
   pub told : new ≡ more old heard
   pub ends : EndsBy gives result heard
+
+abbrev pub Hears : {X : Type 0} → (X → List Hearing → Type 0) → StoreView → StoreView → Result X Stop → Type 0
+Hears gives old new result = HearsIn gives old.heard new.heard result
 
 -- a step whose value says nothing of what was heard
 abbrev pub Anything : {X : Type 0} → X → List Hearing → Type 0

@@ -8,3 +8,4 @@ pub mod Views
 pub mod Heard
 pub mod Built
 pub mod Dump
+pub mod Laws

@@ -41,9 +41,11 @@ pub record Entry : Type 0 where
   pub export : Export
   pub below : List (Text × Bool)
 
--- a file that is written under a name, and stands for this
-abbrev pub Put : Type 0
-Put = Text × Entry
+-- the two files of a package: the same bytes under both names, which stand for this
+pub record Put : Type 0 where
+  pub unit : Text
+  pub linked : Text
+  pub entry : Entry
 
 pub record Plan (X : Type 0) : Type 0 where
   pub value : Result X Refusal
@@ -76,6 +78,6 @@ p >>= f = record { value = (next p.value f).value; asks = p.asks ++ (next p.valu
 abbrev pub asking : {X : Type 0} → Ask → Result X Refusal → Plan X
 asking call value = record { value = value; asks = call ∷ []; puts = [] }
 
--- the file is written
-abbrev pub writing : Text → Entry → Plan (Unit {0})
-writing name entry = record { value = Ok tt; asks = (ask.Write, name) ∷ []; puts = (name, entry) ∷ [] }
+-- the files are written, the unit file before the linked file
+abbrev pub writing : Put → Plan (Unit {0})
+writing p = record { value = Ok tt; asks = (ask.Write, p.unit) ∷ (ask.Write, p.linked) ∷ []; puts = p ∷ [] }

@@ -3,7 +3,8 @@ use Rattle.std.specs.Prelude.{◌≡◌, ◌⊎◌, ℕ, ◌≤◌, List, [], �
 use Rattle.ui_store.specs.Causes.{Rose}
 use Rattle.ui_store.specs.Told.{more}
 use Rattle.ui_store.specs.Files.{Files, put}
-use Rattle.ui_store.specs.Calls.{Ask, Calls}
+use Rattle.ui_store.specs.Calls.{Ask, Calls, Torn}
+use Rattle.ui_store.specs.Views.{StoreView}
 use Rattle.ui_store.specs.declared.store.AskKind.TheVariants as ask
 use Rattle.ui_frame.specs.Laws.{IsBytes}
 use Rattle.ui_consts.specs.Record.{Holds}
@@ -27,13 +28,16 @@ refusal_of told.TooMany = TooMany
 refusal_of (told.Cycle path) = Cycle (string_bytes path)
 refusal_of (told.Stale path first second) = Stale path first second
 
--- what a store tells of itself at a moment
+-- the files and calls that a store tells at a moment
 pub record State : Type 0 where
   pub files : Option Files
   pub asked : Calls
 
 abbrev pub state : Option Files → Calls → State
 state files asked = record { files = files; asked = asked }
+
+abbrev pub seen : StoreView → State
+seen store = state store.files store.asked
 
 -- The bytes are a file that is read whole, and stand for the entry, over the files before: each package below has the
 -- fingerprint of its linked file there.
@@ -42,15 +46,23 @@ pub record IsFileOf (old : Option Files) (bytes : Text) (entry : Entry) : Type 0
   pub holds : IfSome old (λ told. Holds bytes (linked_as told entry))
   pub short : length bytes ≤ file_limit
 
--- The files were written, one after another, with bytes that stand for what they are to stand for.
+-- both files of a package with these bytes
+abbrev pub with_both : Put → Text → Option Files → Option Files
+with_both p bytes old = put (put old p.unit bytes) p.linked bytes
+
+-- a front of the unit file, or the whole of it and a front of the linked file
+abbrev pub WithFront : Put → Text → Option Files → Option Files → Type 0
+WithFront p bytes old new = ((n : ℕ) × (new ≡ put old p.unit (take n bytes))) ⊎ ((n : ℕ) × (new ≡ put (put old p.unit bytes) p.linked (take n bytes)))
+
+-- The files were written, one package's after another's, with bytes that stand for what they are to stand for.
 abbrev pub Puts : List Put → Option Files → Option Files → Type 0
 Puts [] old new = new ≡ old
-Puts (p ∷ ps) old new = (bytes : Text) × IsFileOf old bytes p.1 × Puts ps (put old p.0 bytes) new
+Puts (p ∷ ps) old new = (bytes : Text) × IsFileOf old bytes p.entry × Puts ps (with_both p bytes old) new
 
 -- Some of the files were written, in their order, and of the last one maybe a front alone.
 abbrev pub PutsFront : List Put → Option Files → Option Files → Type 0
 PutsFront [] old new = new ≡ old
-PutsFront (p ∷ ps) old new = (new ≡ old) ⊎ ((bytes : Text) × IsFileOf old bytes p.1 × (((n : ℕ) × (new ≡ put old p.0 (take n bytes))) ⊎ PutsFront ps (put old p.0 bytes) new))
+PutsFront (p ∷ ps) old new = (new ≡ old) ⊎ ((bytes : Text) × IsFileOf old bytes p.entry × (WithFront p bytes old new ⊎ PutsFront ps (with_both p bytes old) new))
 
 -- A front of the calls was asked.
 pub record AsksFront (asks : List Ask) (old new : Calls) : Type 0 where
@@ -81,13 +93,26 @@ Does view plan old new (Ok a) = (plan.value ≡ Ok (view a)) × Ends plan old ne
 Does view plan old new (Err s) = DoesStop plan old new s
 
 -- the same of a store that may tell nothing
-abbrev pub DoesTold : {A X : Type 0} → (A → X) → (Files → Plan X) → State → State → Result A Stop → Type 0
-DoesTold view plan old new result = IfSome old.files (λ files. Does view (plan files) old new result)
+abbrev pub DoesSeen : {A X : Type 0} → (A → X) → (Files → Plan X) → State → State → Result A Stop → Type 0
+DoesSeen view plan old new result = IfSome old.files (λ files. Does view (plan files) old new result)
+
+abbrev pub DoesTold : {A X : Type 0} → (A → X) → (Files → Plan X) → StoreView → StoreView → Result A Stop → Type 0
+DoesTold view plan old new result = DoesSeen view plan (seen old) (seen new) result
 
 -- The same where the code doesn't keep the value, of which this holds then.
 abbrev pub Carries : {A X : Type 0} → (X → Type 0) → Plan X → State → State → Result A Stop → Type 0
 Carries {A} {X} holds plan old new (Ok a) = (x : X) × (plan.value ≡ Ok x) × Ends plan old new × holds x
 Carries holds plan old new (Err s) = DoesStop plan old new s
+
+-- A call that writes was asked; one that was stopped may be missing.
+abbrev pub AsksWrite : {X : Type 0} → Text → Calls → Calls → Result X Stop → Type 0
+AsksWrite name old new (Ok x) = new ≡ more old ((ask.Write, name) ∷ [])
+AsksWrite name old new (Err s) = (new ≡ old) ⊎ (new ≡ more old ((ask.Write, name) ∷ []))
+
+-- The bytes stand under the name; after a call that was stopped the old ones, or a front of these.
+abbrev pub WritesFile : {X : Type 0} → Text → Text → Option Files → Option Files → Result X Stop → Type 0
+WritesFile name bytes old new (Ok x) = new ≡ put old name bytes
+WritesFile name bytes old new (Err s) = Torn old new name bytes
 
 -- A result of no step is what is wanted, but for want of memory.
 abbrev pub SettlesStop : {X : Type 0} → Result X Refusal → Stop → Type 0
@@ -105,12 +130,12 @@ abbrev pub EndsWith : Calls → Ask → Type 0
 EndsWith asked last = (before : Calls) × (asked ≡ more before (last ∷ []))
 
 -- A fault of the device: the count rose, and the last call asked is of that name.
-abbrev pub StopCause : ℕ → ℕ → Calls → Stop → Type 0
-StopCause before now asked (stop.ReadFault name) = Rose before now × (EndsWith asked (ask.List, string_bytes name) ⊎ EndsWith asked (ask.Read, string_bytes name))
-StopCause before now asked (stop.WriteFault name) = Rose before now × EndsWith asked (ask.Write, string_bytes name)
-StopCause before now asked (stop.Refused refusal) = ⊤
-StopCause before now asked stop.NoMemory = ⊤
+abbrev pub StopCause : StoreView → StoreView → Stop → Type 0
+StopCause old new (stop.ReadFault name) = Rose old.faults new.faults × (EndsWith new.asked (ask.List, string_bytes name) ⊎ EndsWith new.asked (ask.Read, string_bytes name))
+StopCause old new (stop.WriteFault name) = Rose old.faults new.faults × EndsWith new.asked (ask.Write, string_bytes name)
+StopCause old new (stop.Refused refusal) = ⊤
+StopCause old new stop.NoMemory = ⊤
 
-pub record HasCause {X : Type 0} (before now : ℕ) (asked : Calls) (result : Result X Stop) : Type 0 where
-  pub later : before ≤ now
-  pub stop : IfErr result (StopCause before now asked)
+pub record HasCause {X : Type 0} (old new : StoreView) (result : Result X Stop) : Type 0 where
+  pub later : old.faults ≤ new.faults
+  pub stop : IfErr result (StopCause old new)

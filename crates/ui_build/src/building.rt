@@ -1,7 +1,7 @@
 // A package and the packages below it are built.
 ghost use Rattle.ui_build.specs.Build.{build};
 ghost use Rattle.ui_build.specs.Heard.{Builds, Hears};
-ghost use Rattle.ui_build.specs.Stops.{state, DoesTold, HasCause};
+ghost use Rattle.ui_build.specs.Stops.{DoesTold, HasCause};
 
 use crate::compiling::compile_all;
 use crate::discovering::build_order;
@@ -19,9 +19,10 @@ use ui_store::Store;
 ///
 /// Over a store that tells its files, the outcome is that by the sources alone.
 pub fn build<S: Store>(alloc: Global, store: &mut S, path: &str) -> Result<Package, Stop>
-    ensures does { DoesTold (λ p. p) (λ told. build told path.now) (state (S.files store.old) (S.asked store.old)) (state (S.files store.new) (S.asked store.new)) result }
-    ensures heard { Hears (λ p. Builds path.now p) (S.heard store.old) (S.heard store.new) result }
-    ensures cause { HasCause (S.faults store.old) (S.faults store.new) (S.asked store.new) result }
+    ensures does { DoesTold (λ p. p) (λ told. build told path.now)
+        (S.told store.old) (S.told store.new) result }
+    ensures heard { Hears (λ p. Builds path.now p) (S.told store.old) (S.told store.new) result }
+    ensures cause { HasCause (S.told store.old) (S.told store.new) result }
 {
     one_container();
     reads_back();

@@ -9,7 +9,7 @@ ghost use Rattle.ui_build.specs.Build.{Packages, compile, compile_all, package_l
 ghost use Rattle.ui_build.specs.Loading.{entry_of, linked_as, prepared};
 ghost use Rattle.ui_build.specs.Heard.{Compiles, CompilesAll, Hears, HearsNothing, ReadsForm};
 ghost use Rattle.ui_build.specs.Built.{Compiled, IsInOrder, IsReady, Stands};
-ghost use Rattle.ui_build.specs.Stops.{state, Carries, Does, DoesTold, HasCause};
+ghost use Rattle.ui_build.specs.Stops.{seen, Carries, Does, DoesTold, HasCause};
 
 use crate::files::write_file;
 use crate::judging::{form_in, judge};
@@ -27,10 +27,11 @@ use ui_store::Store;
 
 // Reads the form of a package's sources.
 fn read_form<S: Store>(alloc: Global, store: &mut S, path: &str) -> Result<Form, Stop>
-    ensures does { DoesTold (λ f. f) (λ told. read_form told path.now) (state (S.files store.old) (S.asked store.old)) (state (S.files store.new) (S.asked store.new)) result }
-    ensures files { S.files store.new ≡ S.files store.old }
-    ensures heard { Hears (λ f. ReadsForm path.now f) (S.heard store.old) (S.heard store.new) result }
-    ensures cause { HasCause (S.faults store.old) (S.faults store.new) (S.asked store.new) result }
+    ensures does { DoesTold (λ f. f) (λ told. read_form told path.now)
+        (S.told store.old) (S.told store.new) result }
+    ensures files { (S.told store.new).files ≡ (S.told store.old).files }
+    ensures heard { Hears (λ f. ReadsForm path.now f) (S.told store.old) (S.told store.new) result }
+    ensures cause { HasCause (S.told store.old) (S.told store.new) result }
     ensures own { IfOk result (λ f. f.path ≡ path.now) }
 {
     let sources = find(alloc, store, path)?;
@@ -40,10 +41,11 @@ fn read_form<S: Store>(alloc: Global, store: &mut S, path: &str) -> Result<Form,
 
 // What a package is to stand for, by its sources and the linked files of its imports.
 fn prepare<S: Store>(alloc: Global, store: &mut S, path: &str) -> Result<Linked, Stop>
-    ensures does { DoesTold (λ l. l) (λ told. prepared told path.now) (state (S.files store.old) (S.asked store.old)) (state (S.files store.new) (S.asked store.new)) result }
-    ensures files { S.files store.new ≡ S.files store.old }
-    ensures heard { Hears (λ l. Compiles path.now l) (S.heard store.old) (S.heard store.new) result }
-    ensures cause { HasCause (S.faults store.old) (S.faults store.new) (S.asked store.new) result }
+    ensures does { DoesTold (λ l. l) (λ told. prepared told path.now)
+        (S.told store.old) (S.told store.new) result }
+    ensures files { (S.told store.new).files ≡ (S.told store.old).files }
+    ensures heard { Hears (λ l. Compiles path.now l) (S.told store.old) (S.told store.new) result }
+    ensures cause { HasCause (S.told store.old) (S.told store.new) result }
     ensures own { IfOk result (λ l. l.export.path ≡ path.now) }
     ensures small { IfOk result IsSmall }
 {
@@ -56,9 +58,11 @@ fn prepare<S: Store>(alloc: Global, store: &mut S, path: &str) -> Result<Linked,
 // Writes the unit file and the linked file of a package.
 fn write_files<S: Store>(alloc: Global, store: &mut S, path: &str, of: &Linked) -> Result<(), Stop>
     requires { IsSmall of.now }
-    ensures does { (told : Files) (entry : Entry) → S.files store.old ≡ Some told → of.now ≡ linked_as told entry → Does (λ _. tt) (write_files path.now entry) (state (S.files store.old) (S.asked store.old)) (state (S.files store.new) (S.asked store.new)) result }
-    ensures heard { HearsNothing (S.heard store.old) (S.heard store.new) result }
-    ensures cause { HasCause (S.faults store.old) (S.faults store.new) (S.asked store.new) result }
+    ensures does { (told : Files) (entry : Entry) → (S.told store.old).files ≡ Some told
+        → of.now ≡ linked_as told entry → Does (λ _. tt) (write_files path.now entry)
+        (seen (S.told store.old)) (seen (S.told store.new)) result }
+    ensures heard { HearsNothing (S.told store.old) (S.told store.new) result }
+    ensures cause { HasCause (S.told store.old) (S.told store.new) result }
 {
     let bytes = write_linked(alloc, of)?;
     are_bytes(&bytes);
@@ -74,10 +78,14 @@ fn write_files<S: Store>(alloc: Global, store: &mut S, path: &str, of: &Linked) 
 /// Over a store that tells its files: where the linked files of the packages before stand for what the sources declare,
 /// the outcome is that by the sources alone, and then the linked file of this package does, too.
 pub fn compile<S: Store>(alloc: Global, store: &mut S, path: &str) -> Result<Linked, Stop>
-    ensures does { (files told : Files) (packages : Packages) → S.files store.old ≡ Some told → IsReady files told packages path.now → Does entry_of (compile files packages path.now) (state (S.files store.old) (S.asked store.old)) (state (S.files store.new) (S.asked store.new)) result }
-    ensures stands { IfOk result (λ l. (files told : Files) (packages : Packages) → S.files store.old ≡ Some told → IsReady files told packages path.now → Stands files (S.files store.new) (insert packages path.now (entry_of l))) }
-    ensures heard { Hears (λ l. Compiles path.now l) (S.heard store.old) (S.heard store.new) result }
-    ensures cause { HasCause (S.faults store.old) (S.faults store.new) (S.asked store.new) result }
+    ensures does { (files told : Files) (packages : Packages) → (S.told store.old).files ≡ Some told
+        → IsReady files told packages path.now → Does entry_of (compile files packages path.now)
+        (seen (S.told store.old)) (seen (S.told store.new)) result }
+    ensures stands { IfOk result (λ l. (files told : Files) (packages : Packages)
+        → (S.told store.old).files ≡ Some told → IsReady files told packages path.now
+        → Stands files (S.told store.new).files (insert packages path.now (entry_of l))) }
+    ensures heard { Hears (λ l. Compiles path.now l) (S.told store.old) (S.told store.new) result }
+    ensures cause { HasCause (S.told store.old) (S.told store.new) result }
 {
     one_container();
     reads_back();
@@ -91,9 +99,14 @@ pub fn compile<S: Store>(alloc: Global, store: &mut S, path: &str) -> Result<Lin
 
 /// Compiles packages in an order in which each stands behind its imports.
 pub fn compile_all<S: Store>(alloc: Global, store: &mut S, order: &[String]) -> Result<(), Stop>
-    ensures does { (files : Files) → S.files store.old ≡ Some files → IsInOrder files [] (map string_bytes order.now) → length order.now ≤ package_limit → Carries (Compiled files (map string_bytes order.now) (S.files store.new)) (compile_all files empty (map string_bytes order.now)) (state (S.files store.old) (S.asked store.old)) (state (S.files store.new) (S.asked store.new)) result }
-    ensures heard { Hears (λ _. CompilesAll (map string_bytes order.now)) (S.heard store.old) (S.heard store.new) result }
-    ensures cause { HasCause (S.faults store.old) (S.faults store.new) (S.asked store.new) result }
+    ensures does { (files : Files) → (S.told store.old).files ≡ Some files
+        → IsInOrder files [] (map string_bytes order.now) → length order.now ≤ package_limit
+        → Carries (Compiled files (map string_bytes order.now) (S.told store.new).files)
+        (compile_all files empty (map string_bytes order.now))
+        (seen (S.told store.old)) (seen (S.told store.new)) result }
+    ensures heard { Hears (λ _. CompilesAll (map string_bytes order.now))
+        (S.told store.old) (S.told store.new) result }
+    ensures cause { HasCause (S.told store.old) (S.told store.new) result }
 {
     for path in order {
         compile(alloc, store, path.as_str())?;

@@ -7,7 +7,7 @@ ghost use Rattle.ui_build.specs.Plan.{Text};
 ghost use Rattle.ui_build.specs.Package.{imports_in};
 ghost use Rattle.ui_build.specs.Build.{build_order, discover, discover_one, ordered, package_limit, within_limit};
 ghost use Rattle.ui_build.specs.Heard.{Anything, Hears};
-ghost use Rattle.ui_build.specs.Stops.{state, DoesTold, HasCause, Settles};
+ghost use Rattle.ui_build.specs.Stops.{DoesTold, HasCause, Settles};
 
 use crate::judging::imports_in;
 use crate::sources::find;
@@ -24,8 +24,12 @@ fn add_package(
     path: String,
     sources: &[Source],
 ) -> Result<Discovery, Stop>
-    ensures settled { Settles (λ d. d) (within_limit (with_imports discovery (string_bytes path) (imports_in (string_bytes path) (map source_of sources.now)))) result }
-    ensures now { IfOk result (λ d. d ≡ with_imports discovery (string_bytes path) (imports_in (string_bytes path) (map source_of sources.now))) }
+    ensures settled { Settles (λ d. d)
+        (within_limit (with_imports discovery (string_bytes path)
+        (imports_in (string_bytes path) (map source_of sources.now)))) result }
+    ensures now { IfOk result
+        (λ d. d ≡ with_imports discovery (string_bytes path)
+        (imports_in (string_bytes path) (map source_of sources.now))) }
 {
     let mut more = discovery;
     let imports = imports_in(alloc, path.as_str(), sources)?;
@@ -43,10 +47,11 @@ fn discover_one<S: Store>(
     discovery: Discovery,
     path: String,
 ) -> Result<Discovery, Stop>
-    ensures does { DoesTold (λ d. d) (λ told. discover_one told discovery (string_bytes path)) (state (S.files store.old) (S.asked store.old)) (state (S.files store.new) (S.asked store.new)) result }
-    ensures files { S.files store.new ≡ S.files store.old }
-    ensures heard { Hears (λ x. Anything x) (S.heard store.old) (S.heard store.new) result }
-    ensures cause { HasCause (S.faults store.old) (S.faults store.new) (S.asked store.new) result }
+    ensures does { DoesTold (λ d. d) (λ told. discover_one told discovery (string_bytes path))
+        (S.told store.old) (S.told store.new) result }
+    ensures files { (S.told store.new).files ≡ (S.told store.old).files }
+    ensures heard { Hears (λ x. Anything x) (S.told store.old) (S.told store.new) result }
+    ensures cause { HasCause (S.told store.old) (S.told store.new) result }
     ensures found { IfOk result (λ d. (root : Text) → IsFound root discovery → IsFound root d) }
 {
     discovery_keeps();
@@ -67,10 +72,11 @@ fn next_path(alloc: Global, discovery: &Discovery) -> Result<Option<String>, All
 
 /// Finds a package and the packages below it.
 pub fn discover<S: Store>(alloc: Global, store: &mut S, root: &str) -> Result<Discovery, Stop>
-    ensures does { DoesTold (λ d. d) (λ told. discover (suc package_limit) told (begun root.now)) (state (S.files store.old) (S.asked store.old)) (state (S.files store.new) (S.asked store.new)) result }
-    ensures files { S.files store.new ≡ S.files store.old }
-    ensures heard { Hears (λ x. Anything x) (S.heard store.old) (S.heard store.new) result }
-    ensures cause { HasCause (S.faults store.old) (S.faults store.new) (S.asked store.new) result }
+    ensures does { DoesTold (λ d. d) (λ told. discover (suc package_limit) told (begun root.now))
+        (S.told store.old) (S.told store.new) result }
+    ensures files { (S.told store.new).files ≡ (S.told store.old).files }
+    ensures heard { Hears (λ x. Anything x) (S.told store.old) (S.told store.new) result }
+    ensures cause { HasCause (S.told store.old) (S.told store.new) result }
     ensures found { IfOk result (λ d. IsFound root.now d) }
     ensures all { IfOk result (λ d. least_unread d ≡ None) }
 {
@@ -101,10 +107,11 @@ fn ordered(alloc: Global, discovery: &Discovery) -> Result<Vec<String>, Stop>
 
 /// Finds a package and the packages below it, and puts them in order: each behind its imports.
 pub fn build_order<S: Store>(alloc: Global, store: &mut S, root: &str) -> Result<Vec<String>, Stop>
-    ensures does { DoesTold texts (λ told. build_order told root.now) (state (S.files store.old) (S.asked store.old)) (state (S.files store.new) (S.asked store.new)) result }
-    ensures files { S.files store.new ≡ S.files store.old }
-    ensures heard { Hears (λ x. Anything x) (S.heard store.old) (S.heard store.new) result }
-    ensures cause { HasCause (S.faults store.old) (S.faults store.new) (S.asked store.new) result }
+    ensures does { DoesTold texts (λ told. build_order told root.now)
+        (S.told store.old) (S.told store.new) result }
+    ensures files { (S.told store.new).files ≡ (S.told store.old).files }
+    ensures heard { Hears (λ x. Anything x) (S.told store.old) (S.told store.new) result }
+    ensures cause { HasCause (S.told store.old) (S.told store.new) result }
 {
     discovery_keeps();
     let discovery = discover(alloc, store, root)?;

@@ -2,7 +2,7 @@
 ghost use Rattle.std.specs.Prelude.{◌≡◌, IfErr};
 ghost use Rattle.ui_build.specs.Dump.{Dumps, IsReadStop, dump};
 ghost use Rattle.ui_build.specs.Heard.{Hears};
-ghost use Rattle.ui_build.specs.Stops.{state, DoesTold, HasCause};
+ghost use Rattle.ui_build.specs.Stops.{DoesTold, HasCause};
 
 use crate::loading::{load, package_of};
 use crate::stop::Stop;
@@ -15,10 +15,11 @@ use ui_store::Store;
 /// It is stopped only where the file is missing, too long, no container or not of the package, by a fault of the read, or
 /// for want of memory.
 pub fn dump<S: Store>(alloc: Global, store: &mut S, path: &str) -> Result<Package, Stop>
-    ensures does { DoesTold (λ p. p) (λ told. dump told path.now) (state (S.files store.old) (S.asked store.old)) (state (S.files store.new) (S.asked store.new)) result }
-    ensures files { S.files store.new ≡ S.files store.old }
-    ensures heard { Hears (λ p. Dumps path.now p) (S.heard store.old) (S.heard store.new) result }
-    ensures cause { HasCause (S.faults store.old) (S.faults store.new) (S.asked store.new) result }
+    ensures does { DoesTold (λ p. p) (λ told. dump told path.now)
+        (S.told store.old) (S.told store.new) result }
+    ensures files { (S.told store.new).files ≡ (S.told store.old).files }
+    ensures heard { Hears (λ p. Dumps path.now p) (S.told store.old) (S.told store.new) result }
+    ensures cause { HasCause (S.told store.old) (S.told store.new) result }
     ensures stop { IfErr result IsReadStop }
 {
     let loaded = load(alloc, store, path)?;

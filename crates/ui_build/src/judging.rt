@@ -80,9 +80,13 @@ pub fn imports_in(alloc: Global, path: &str, sources: &[Source]) -> Result<Vec<S
 // The packages below, by the linked files of the imports.
 fn below_in(alloc: Global, path: &str, imports: &Imports) -> Result<Vec<Below>, Stop>
     requires { length imports.now.files.items ≡ length imports.now.prints.items }
-    ensures settled { Settles belows (or_apart path.now (joined path.now (claims imports.now.files.items imports.now.prints.items))) result }
+    ensures settled { Settles belows
+        (or_apart path.now
+        (joined path.now (claims imports.now.files.items imports.now.prints.items))) result }
     ensures few { IfOk result (λ v. length v.items ≤ package_limit) }
-    ensures joined { IfOk result (λ v. joined path.now (claims imports.now.files.items imports.now.prints.items) ≡ Ok (belows v)) }
+    ensures joined { IfOk result
+        (λ v. joined path.now (claims imports.now.files.items imports.now.prints.items)
+        ≡ Ok (belows v)) }
 {
     match join(alloc, path.as_bytes(), &imports.files, &imports.prints) {
         Ok(below) if below.len() > PACKAGE_LIMIT => Err(Stop::Refused(Refusal::TooMany)),
@@ -105,7 +109,8 @@ fn below_in(alloc: Global, path: &str, imports: &Imports) -> Result<Vec<Below>, 
 
 // What a package exports, or its first fault.
 fn export_of(alloc: Global, form: &Form, files: &[Linked]) -> Result<Package, Stop>
-    ensures settled { Settles (λ p. p) (or_fault (verdict (environment_of files.now) form.now)) result }
+    ensures settled { Settles (λ p. p)
+        (or_fault (verdict (environment_of files.now) form.now)) result }
     ensures own { IfOk result (λ p. p.path ≡ form.now.path) }
     ensures named { IfOk result HasNames }
     ensures small { IfOk result IsSmallExport }
@@ -121,8 +126,10 @@ fn export_of(alloc: Global, form: &Form, files: &[Linked]) -> Result<Package, St
 pub fn judge(alloc: Global, path: &str, form: &Form, imports: &Imports) -> Result<Linked, Stop>
     requires own { form.now.path ≡ path.now }
     requires paired { length imports.now.files.items ≡ length imports.now.prints.items }
-    requires sound { list_all (λ c. is_sound c.path c.print) (claims imports.now.files.items imports.now.prints.items) ≡ true }
-    ensures settled { Settles (λ l. l) (judgement path.now form.now (imports_of imports.now)) result }
+    requires sound { list_all (λ c. is_sound c.path c.print)
+        (claims imports.now.files.items imports.now.prints.items) ≡ true }
+    ensures settled { Settles (λ l. l)
+        (judgement path.now form.now (imports_of imports.now)) result }
     ensures own { IfOk result (λ l. l.export.path ≡ path.now) }
     ensures small { IfOk result IsSmall }
 {

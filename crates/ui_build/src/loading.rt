@@ -11,7 +11,7 @@ ghost use Rattle.ui_build.specs.Loading.{load, load_all, or_element, recorded};
 ghost use Rattle.ui_build.specs.Dump.{IsReadStop};
 ghost use Rattle.ui_build.specs.Heard.{Hears, Loads, LoadsImports};
 ghost use Rattle.ui_build.specs.Views.{loaded_of, imports_of, is_sound};
-ghost use Rattle.ui_build.specs.Stops.{state, DoesTold, HasCause, Settles};
+ghost use Rattle.ui_build.specs.Stops.{DoesTold, HasCause, Settles};
 
 use crate::files::{FILE_LIMIT, read_file};
 use crate::names::{copy, linked_file};
@@ -52,7 +52,9 @@ pub fn are_bytes(bytes: &[u8])
 
 // What the elements of a container stand for, where it is that of the package.
 fn record_of(alloc: Global, path: &str, name: String, frame: &Frame) -> Result<Loaded, Stop>
-    ensures settled { Settles loaded_of (or_element (string_bytes name) path.now (fingerprint frame.now) (record_in frame.now)) result }
+    ensures settled { Settles loaded_of
+        (or_element (string_bytes name) path.now (fingerprint frame.now) (record_in frame.now))
+        result }
     ensures listed { IfOk result (λ l. IsListed l.linked.below) }
     ensures own { IfOk result (λ l. l.linked.export.path ≡ path.now) }
 {
@@ -69,7 +71,8 @@ fn record_of(alloc: Global, path: &str, name: String, frame: &Frame) -> Result<L
 // What a linked file stands for.
 #[tactic(auto, unfolding(crate::specs::Loading::recorded))]
 fn record(alloc: Global, path: &str, name: String, bytes: Option<Vec<u8>>) -> Result<Loaded, Stop>
-    ensures settled { Settles loaded_of (recorded (string_bytes name) path.now (option_map (λ v. v.items) bytes)) result }
+    ensures settled { Settles loaded_of
+        (recorded (string_bytes name) path.now (option_map (λ v. v.items) bytes)) result }
     ensures listed { IfOk result (λ l. IsListed l.linked.below) }
     ensures own { IfOk result (λ l. l.linked.export.path ≡ path.now) }
 {
@@ -86,10 +89,12 @@ fn record(alloc: Global, path: &str, name: String, bytes: Option<Vec<u8>>) -> Re
 
 /// Reads what the linked file of a package stands for.
 pub fn load<S: Store>(alloc: Global, store: &mut S, path: &str) -> Result<Loaded, Stop>
-    ensures does { DoesTold loaded_of (λ told. load told path.now) (state (S.files store.old) (S.asked store.old)) (state (S.files store.new) (S.asked store.new)) result }
-    ensures files { S.files store.new ≡ S.files store.old }
-    ensures heard { Hears (λ l. Loads path.now (loaded_of l)) (S.heard store.old) (S.heard store.new) result }
-    ensures cause { HasCause (S.faults store.old) (S.faults store.new) (S.asked store.new) result }
+    ensures does { DoesTold loaded_of (λ told. load told path.now)
+        (S.told store.old) (S.told store.new) result }
+    ensures files { (S.told store.new).files ≡ (S.told store.old).files }
+    ensures heard { Hears (λ l. Loads path.now (loaded_of l))
+        (S.told store.old) (S.told store.new) result }
+    ensures cause { HasCause (S.told store.old) (S.told store.new) result }
     ensures stop { IfErr result IsReadStop }
     ensures listed { IfOk result (λ l. IsListed l.linked.below) }
     ensures own { IfOk result (λ l. l.linked.export.path ≡ path.now) }
@@ -111,13 +116,18 @@ fn has_eight(print: &[u8; 8])
 /// Reads what the linked files of packages stand for, in their order.
 pub fn load_all<S: Store>(alloc: Global, store: &mut S, paths: &[String]) -> Result<Imports, Stop>
     requires { AllByRecursion (λ path. is_path path ≡ true) (map string_bytes paths.now) }
-    ensures does { DoesTold imports_of (λ told. load_all told ([], []) (map string_bytes paths.now)) (state (S.files store.old) (S.asked store.old)) (state (S.files store.new) (S.asked store.new)) result }
-    ensures files { S.files store.new ≡ S.files store.old }
-    ensures heard { Hears (λ i. LoadsImports (map string_bytes paths.now) (imports_of i)) (S.heard store.old) (S.heard store.new) result }
-    ensures cause { HasCause (S.faults store.old) (S.faults store.new) (S.asked store.new) result }
-    ensures paths { IfOk result (λ i. map (λ l. l.export.path) i.files.items ≡ map string_bytes paths.now) }
+    ensures does { DoesTold imports_of (λ told. load_all told ([], []) (map string_bytes paths.now))
+        (S.told store.old) (S.told store.new) result }
+    ensures files { (S.told store.new).files ≡ (S.told store.old).files }
+    ensures heard { Hears (λ i. LoadsImports (map string_bytes paths.now) (imports_of i))
+        (S.told store.old) (S.told store.new) result }
+    ensures cause { HasCause (S.told store.old) (S.told store.new) result }
+    ensures paths { IfOk result
+        (λ i. map (λ l. l.export.path) i.files.items ≡ map string_bytes paths.now) }
     ensures paired { IfOk result (λ i. length i.files.items ≡ length i.prints.items) }
-    ensures sound { IfOk result (λ i. list_all (λ c. is_sound c.path c.print) (claims i.files.items i.prints.items) ≡ true) }
+    ensures sound { IfOk result
+        (λ i. list_all (λ c. is_sound c.path c.print) (claims i.files.items i.prints.items)
+        ≡ true) }
 {
     let mut files = Vec::new(alloc);
     let mut prints = Vec::new(alloc);

@@ -3,7 +3,7 @@ ghost use Rattle.std.specs.Prelude.{◌≡◌, ◌≤◌, [], IfOk, filter, map,
 ghost use Rattle.ui_sources.specs.Sources.{source_of};
 ghost use Rattle.ui_build.specs.Package.{find, read_source, read_sources, is_source, folder, file_in};
 ghost use Rattle.ui_build.specs.Heard.{FindsSources, HasRead, Hears, ReadsSources};
-ghost use Rattle.ui_build.specs.Stops.{state, DoesTold, HasCause};
+ghost use Rattle.ui_build.specs.Stops.{DoesTold, HasCause};
 ghost use Rattle.ui_build.specs.Sources.{sources_of};
 
 use crate::files::{list_folder, read_file};
@@ -28,11 +28,13 @@ fn read_source<S: Store>(
     folder: &str,
     part: &str,
 ) -> Result<Source, Stop>
-    ensures does { DoesTold source_of (λ told. read_source told (file_in folder.now part.now)) (state (S.files store.old) (S.asked store.old)) (state (S.files store.new) (S.asked store.new)) result }
-    ensures files { S.files store.new ≡ S.files store.old }
-    ensures heard { Hears (λ s. HasRead (source_of s)) (S.heard store.old) (S.heard store.new) result }
+    ensures does { DoesTold source_of (λ told. read_source told (file_in folder.now part.now))
+        (S.told store.old) (S.told store.new) result }
+    ensures files { (S.told store.new).files ≡ (S.told store.old).files }
+    ensures heard { Hears (λ s. HasRead (source_of s))
+        (S.told store.old) (S.told store.new) result }
     ensures name { IfOk result (λ s. string_bytes s.name ≡ file_in folder.now part.now) }
-    ensures cause { HasCause (S.faults store.old) (S.faults store.new) (S.asked store.new) result }
+    ensures cause { HasCause (S.told store.old) (S.told store.new) result }
 {
     let name = file_in(alloc, folder, part)?;
     let asked = copy(alloc, &name)?;
@@ -47,10 +49,14 @@ fn read_sources<S: Store>(
     folder: &str,
     names: &[String],
 ) -> Result<Vec<Source>, Stop>
-    ensures does { DoesTold sources_of (λ told. read_sources told folder.now [] (filter is_source (map string_bytes names.now))) (state (S.files store.old) (S.asked store.old)) (state (S.files store.new) (S.asked store.new)) result }
-    ensures files { S.files store.new ≡ S.files store.old }
-    ensures heard { Hears (λ v. ReadsSources folder.now (filter is_source (map string_bytes names.now)) (sources_of v)) (S.heard store.old) (S.heard store.new) result }
-    ensures cause { HasCause (S.faults store.old) (S.faults store.new) (S.asked store.new) result }
+    ensures does { DoesTold sources_of
+        (λ told. read_sources told folder.now [] (filter is_source (map string_bytes names.now)))
+        (S.told store.old) (S.told store.new) result }
+    ensures files { (S.told store.new).files ≡ (S.told store.old).files }
+    ensures heard { Hears (λ v. ReadsSources folder.now
+        (filter is_source (map string_bytes names.now)) (sources_of v))
+        (S.told store.old) (S.told store.new) result }
+    ensures cause { HasCause (S.told store.old) (S.told store.new) result }
 {
     let mut sources = Vec::new(alloc);
     for name in names {
@@ -65,10 +71,12 @@ fn read_sources<S: Store>(
 
 /// Finds and reads the sources of a package, in the order in which the store lists them: ascending by name.
 pub fn find<S: Store>(alloc: Global, store: &mut S, path: &str) -> Result<Vec<Source>, Stop>
-    ensures does { DoesTold sources_of (λ told. find told (folder path.now)) (state (S.files store.old) (S.asked store.old)) (state (S.files store.new) (S.asked store.new)) result }
-    ensures files { S.files store.new ≡ S.files store.old }
-    ensures heard { Hears (λ v. FindsSources (folder path.now) (sources_of v)) (S.heard store.old) (S.heard store.new) result }
-    ensures cause { HasCause (S.faults store.old) (S.faults store.new) (S.asked store.new) result }
+    ensures does { DoesTold sources_of (λ told. find told (folder path.now))
+        (S.told store.old) (S.told store.new) result }
+    ensures files { (S.told store.new).files ≡ (S.told store.old).files }
+    ensures heard { Hears (λ v. FindsSources (folder path.now) (sources_of v))
+        (S.told store.old) (S.told store.new) result }
+    ensures cause { HasCause (S.told store.old) (S.told store.new) result }
 {
     let folder = names::folder(alloc, path)?;
     let asked = copy(alloc, &folder)?;

@@ -6,6 +6,7 @@ pub mod Sources
 pub mod Files
 pub mod Listings
 pub mod Calls
+pub mod Views
 pub mod Memory
 pub mod MemorySource
 pub mod MemorySink

@@ -12,6 +12,7 @@ use Rattle.ui_base.specs.Entries.{bytes_of, map_of}
 use Rattle.ui_base.proofs.EntryLemmas.{map_of-insert, look-map_of, keys-map_of}
 use Rattle.ui_store.specs.Files.{Files}
 use Rattle.ui_store.specs.Calls.{Ask}
+use Rattle.ui_store.specs.Views.{StoreView}
 use Rattle.ui_store.specs.Numbers.{next, is_due}
 use Rattle.ui_store.specs.declared.fault.StoreFault.{StoreFault}
 use Rattle.ui_store.specs.declared.fault.StoreFault.TheVariants.{Missing, TooLong, Failed, NoMemory}
@@ -42,6 +43,10 @@ pub record Memory : Type 0 where
 -- what a store in memory holds
 abbrev pub memory_of : MemStore → Memory
 memory_of m = record { files = files_of m.files.entries; asked = map ask_of m.asked.items; fails = m.fails.items; keep = m.keep; calls = m.calls; faults = m.faults }
+
+-- what such a store tells
+abbrev pub memory_told : Memory → StoreView
+memory_told m = record { files = Some m.files; asked = Some m.asked; heard = None; faults = m.faults }
 
 -- A call fails exactly where its number is on the list, and then the count goes up, but where memory ran out.
 abbrev pub FailsByNumber : {X : Type 0} → Memory → Memory → Result X StoreFault → Type 0

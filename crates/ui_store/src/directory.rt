@@ -11,7 +11,7 @@ use crate::fault::StoreFault;
 use crate::store::{Store, has_slash};
 use std::alloc::Global;
 use std::cmp::Ordering;
-use std::fs::File;
+use std::fs::{DirEntry, File};
 use std::io::{ErrorKind, Read};
 use std::rt::Files;
 use std::{fs, io};
@@ -23,6 +23,14 @@ pub struct DirStore<R> {
     faults: u64,
 }
 
+// The name of an entry of a folder; none where the entry is a folder itself.
+fn file_name<R: Files>(alloc: Global, entry: &DirEntry<R>) -> io::Result<Option<String>> {
+    if entry.metadata()?.is_dir() {
+        return Ok(None);
+    }
+    Ok(Some(String::from_str(alloc, entry.file_name())?))
+}
+
 // The names of the files in a folder, sorted. Folders are left out.
 fn names_in<R: Files + AllocGlobal + Clone + Drop>(
     rt: &R,
@@ -31,9 +39,8 @@ fn names_in<R: Files + AllocGlobal + Clone + Drop>(
 ) -> io::Result<Vec<String>> {
     let mut names = Vec::new(alloc);
     for entry in fs::read_dir(rt, dir)? {
-        let entry = entry?;
-        if !entry.metadata()?.is_dir() {
-            names.push(String::from_str(alloc, entry.file_name())?)?;
+        if let Some(name) = file_name(alloc, &entry?)? {
+            names.push(name)?;
         }
     }
     names.sort()?;
@@ -117,13 +124,7 @@ impl<R> DirStore<R> {
 }
 
 impl<R: Files + AllocGlobal + Clone + Drop> Store for DirStore<R> {
-    ghost files = { λ s. None };
-
-    ghost asked = { λ s. None };
-
-    ghost heard = { λ s. None };
-
-    ghost faults = { λ s. s.faults };
+    ghost told = { λ s. record { files = None; asked = None; heard = None; faults = s.faults } };
 
     #[tactic(auto, unfolding(crate::specs::Told::more))]
     fn list(&mut self, alloc: Global, dir: &str) -> Result<Vec<String>, StoreFault> {

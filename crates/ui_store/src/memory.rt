@@ -7,7 +7,7 @@ ghost use Rattle.ui_store.specs.Numbers.{next, is_due};
 ghost use Rattle.ui_store.specs.Files.{is_part, part_in, names_in, texts, listing, reading};
 ghost use Rattle.ui_store.specs.Listings.{IsListing};
 ghost use Rattle.ui_store.specs.Calls.{Gives, Asks, Hears, Writes};
-ghost use Rattle.ui_store.specs.Memory.{files_of, ask_of, memory_of, IsCall, Keeps};
+ghost use Rattle.ui_store.specs.Memory.{files_of, ask_of, memory_of, memory_told, IsCall, Keeps};
 ghost use Rattle.ui_store.specs.declared.store.Given.TheVariants as given;
 
 use crate::fault::StoreFault;
@@ -32,7 +32,8 @@ impl MemStore {
     #[tactic(auto, unfolding(crate::specs::Memory::files_of))]
     /// An empty store that fails at the calls of these numbers, from 0. A write that fails leaves the first `keep` bytes.
     pub fn new(alloc: Global, fails: Vec<u64>, keep: usize) -> MemStore
-        ensures { memory_of result ≡ record { files = empty; asked = []; fails = fails.items; keep = keep; calls = 0; faults = 0 } }
+        ensures { memory_of result ≡ record
+            { files = empty; asked = []; fails = fails.items; keep = keep; calls = 0; faults = 0 } }
     {
         MemStore {
             files: BTreeMap::new(alloc),
@@ -46,7 +47,9 @@ impl MemStore {
 
     /// Puts a file. This is no call of the store.
     pub fn put(&mut self, alloc: Global, name: &str, bytes: &[u8]) -> Result<(), NoMemory>
-        ensures ok { OnOk result (memory_of self.new ≡ record (memory_of self.old) { files = insert (memory_of self.old).files name.now bytes.now }) }
+        ensures ok { OnOk result
+            (memory_of self.new ≡ record (memory_of self.old)
+            { files = insert (memory_of self.old).files name.now bytes.now }) }
         ensures err { OnErr result (memory_of self.new ≡ memory_of self.old) }
     {
         put_file(alloc, &mut self.files, name, bytes)
@@ -79,9 +82,13 @@ impl MemStore {
     // Numbers a call and notes it. Gives whether it is to fail.
     fn begin(&mut self, alloc: Global, what: AskKind, name: &str) -> Result<bool, NoMemory>
         ensures due { IfOk result (λ due. due ≡ is_due self.old.fails.items self.old.calls) }
-        ensures others { self.new ≡ record self.old { asked = self.new.asked; calls = next self.old.calls } }
-        ensures noted { OnOk result (map ask_of self.new.asked.items ≡ map ask_of self.old.asked.items ++ (what, name.now) ∷ []) }
-        ensures not_noted { OnErr result (map ask_of self.new.asked.items ≡ map ask_of self.old.asked.items) }
+        ensures others { self.new ≡ record self.old
+            { asked = self.new.asked; calls = next self.old.calls } }
+        ensures noted { OnOk result
+            (map ask_of self.new.asked.items ≡ map ask_of self.old.asked.items ++ (what, name.now)
+            ∷ []) }
+        ensures not_noted { OnErr result
+            (map ask_of self.new.asked.items ≡ map ask_of self.old.asked.items) }
     {
         let number = self.calls;
         self.calls = number.saturating_add(1);
@@ -102,7 +109,8 @@ impl MemStore {
 
 // Notes a call.
 fn note(alloc: Global, asked: &mut Vec<Asked>, what: AskKind, name: &str) -> Result<(), NoMemory>
-    ensures ok { OnOk result (map ask_of asked.new.items ≡ map ask_of asked.old.items ++ (what, name.now) ∷ []) }
+    ensures ok { OnOk result
+        (map ask_of asked.new.items ≡ map ask_of asked.old.items ++ (what, name.now) ∷ []) }
     ensures err { OnErr result (asked.new.items ≡ asked.old.items) }
 {
     let name = Text::from_slice(alloc, name.as_bytes())?;
@@ -118,7 +126,8 @@ fn put_file(
     name: &str,
     bytes: &[u8],
 ) -> Result<(), NoMemory>
-    ensures ok { OnOk result (files_of files.new.entries ≡ insert (files_of files.old.entries) name.now bytes.now) }
+    ensures ok { OnOk result
+        (files_of files.new.entries ≡ insert (files_of files.old.entries) name.now bytes.now) }
     ensures err { OnErr result (files_of files.new.entries ≡ files_of files.old.entries) }
 {
     let name = String::from_str(alloc, name)?;
@@ -175,13 +184,7 @@ fn parts_in(
 
 #[tactic(auto, unfolding(crate::specs::Told::more))]
 impl Store for MemStore {
-    ghost files = { λ m. Some (memory_of m).files };
-
-    ghost asked = { λ m. Some (memory_of m).asked };
-
-    ghost heard = { λ m. None };
-
-    ghost faults = { λ m. (memory_of m).faults };
+    ghost told = { λ m. memory_told (memory_of m) };
 
     #[tactic(auto, unfolding(crate::specs::Told::more, crate::specs::Files::listing))]
     fn list(&mut self, alloc: Global, dir: &str) -> Result<Vec<String>, StoreFault>
@@ -190,8 +193,10 @@ impl Store for MemStore {
         ensures never { IsErrOf result StoreFault.TooLong → ⊥ }
 
         ensures files { (memory_of self.new).files ≡ (memory_of self.old).files }
-        ensures asked { Asks result (Some (memory_of self.old).asked) (Some (memory_of self.new).asked) (AskKind.List, dir.now) }
-        ensures heard { Hears (λ v. given.Names (texts v)) result None None (AskKind.List, dir.now) }
+        ensures asked { Asks result (Some (memory_of self.old).asked)
+            (Some (memory_of self.new).asked) (AskKind.List, dir.now) }
+        ensures heard { Hears (λ v. given.Names (texts v)) result None None
+            (AskKind.List, dir.now) }
         ensures cause { StoreCause (memory_of self.old).faults (memory_of self.new).faults result }
 
         ensures call { IsCall (memory_of self.old) (memory_of self.new) result }
@@ -208,11 +213,13 @@ impl Store for MemStore {
 
     #[tactic(auto, unfolding(crate::specs::Told::more, crate::specs::Files::reading))]
     fn read(&mut self, alloc: Global, name: &str, limit: usize) -> Result<Vec<u8>, StoreFault>
-        ensures gives { Gives (λ v. v.items) result (reading (memory_of self.old).files name.now limit) }
+        ensures gives { Gives (λ v. v.items) result
+            (reading (memory_of self.old).files name.now limit) }
         ensures bounded { IfOk result (λ v. vec_len v ≤ limit) }
 
         ensures files { (memory_of self.new).files ≡ (memory_of self.old).files }
-        ensures asked { Asks result (Some (memory_of self.old).asked) (Some (memory_of self.new).asked) (AskKind.Read, name.now) }
+        ensures asked { Asks result (Some (memory_of self.old).asked)
+            (Some (memory_of self.new).asked) (AskKind.Read, name.now) }
         ensures heard { Hears (λ v. given.Bytes v.items) result None None (AskKind.Read, name.now) }
         ensures cause { StoreCause (memory_of self.old).faults (memory_of self.new).faults result }
 
@@ -232,8 +239,10 @@ impl Store for MemStore {
 
     #[tactic(auto, unfolding(crate::specs::Told::more, crate::specs::Files::put))]
     fn write(&mut self, alloc: Global, name: &str, bytes: &[u8]) -> Result<(), StoreFault>
-        ensures files { Writes result (Some (memory_of self.old).files) (Some (memory_of self.new).files) name.now bytes.now }
-        ensures asked { Asks result (Some (memory_of self.old).asked) (Some (memory_of self.new).asked) (AskKind.Write, name.now) }
+        ensures files { Writes result (Some (memory_of self.old).files)
+            (Some (memory_of self.new).files) name.now bytes.now }
+        ensures asked { Asks result (Some (memory_of self.old).asked)
+            (Some (memory_of self.new).asked) (AskKind.Write, name.now) }
         ensures cause { StoreCause (memory_of self.old).faults (memory_of self.new).faults result }
 
         ensures call { IsCall (memory_of self.old) (memory_of self.new) result }

@@ -24,7 +24,9 @@ impl MemSink {
 
     /// An empty sink, with the memory for its whole room. It fails at the calls of these numbers, from 0.
     pub fn new(alloc: Global, room: usize, fails: Vec<u64>) -> Result<MemSink, NoMemory>
-        ensures { IfOk result (λ s. buffer_of s ≡ record { written = []; room = room; fails = fails.items; calls = 0; faults = 0 }) }
+        ensures { IfOk result
+            (λ s. buffer_of s ≡ record
+            { written = []; room = room; fails = fails.items; calls = 0; faults = 0 }) }
     {
         let bytes = Vec::with_capacity(alloc, room)?;
         Ok(MemSink {
@@ -57,16 +59,15 @@ impl Sink for MemSink {
     ghost use Rattle.ui_store.specs.Sinks.{Appends};
     ghost use Rattle.ui_store.specs.MemorySink.{buffer_of, IsWrite};
 
-    ghost written = { λ s. Some (buffer_of s).written };
-
-    ghost faults = { λ s. (buffer_of s).faults };
+    ghost told = { λ s. record { written = Some (buffer_of s).written; faults = (buffer_of s).faults } };
 
     /// Takes as many bytes as the room left holds. An empty piece needs no room. Takes no memory.
     #[tactic(auto, unfolding(crate::specs::Told::more))]
     fn write(&mut self, piece: &[u8]) -> Result<usize, IoFault>
         ensures within { IfOk result (λ n. n ≤ length piece.now) }
         ensures some { IfOk result (λ n. 0 < length piece.now → 0 < n) }
-        ensures bytes { Appends (Some (buffer_of self.old).written) (Some (buffer_of self.new).written) piece.now result }
+        ensures bytes { Appends (Some (buffer_of self.old).written)
+            (Some (buffer_of self.new).written) piece.now result }
         ensures cause { HasCause (buffer_of self.old).faults (buffer_of self.new).faults result }
 
         ensures call { IsWrite (buffer_of self.old) (buffer_of self.new) piece.now result }

@@ -20,7 +20,8 @@ impl MemSource {
 
     /// A source of these bytes that fails at the calls of these numbers, from 0.
     pub fn new(bytes: Vec<u8>, fails: Vec<u64>) -> MemSource
-        ensures { supply_of result ≡ record { left = bytes.items; fails = fails.items; calls = 0; faults = 0 } }
+        ensures { supply_of result ≡ record
+            { left = bytes.items; fails = fails.items; calls = 0; faults = 0 } }
     {
         MemSource {
             bytes,
@@ -45,15 +46,14 @@ impl Source for MemSource {
     ghost use Rattle.ui_store.specs.Sources.{Takes, Moves};
     ghost use Rattle.ui_store.specs.MemorySource.{supply_of, IsRead};
 
-    ghost left = { λ s. Some (supply_of s).left };
-
-    ghost faults = { λ s. (supply_of s).faults };
+    ghost told = { λ s. record { left = Some (supply_of s).left; faults = (supply_of s).faults } };
 
     #[tactic(auto, unfolding(crate::specs::Told::less))]
     fn read(&mut self, piece: &mut [u8]) -> Result<usize, IoFault>
         ensures within { IfOk result (λ n. n ≤ length piece.old) }
         ensures moves { IfOk result (Moves (supply_of self.old).left piece.new) }
-        ensures left { Takes result (Some (supply_of self.old).left) (Some (supply_of self.new).left) }
+        ensures left { Takes result (Some (supply_of self.old).left)
+            (Some (supply_of self.new).left) }
         ensures cause { HasCause (supply_of self.old).faults (supply_of self.new).faults result }
 
         ensures call { IsRead (supply_of self.old) (supply_of self.new) piece.old piece.new result }

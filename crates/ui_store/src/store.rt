@@ -1,9 +1,10 @@
 // A store of files under names.
 ghost use Rattle.std.specs.Prelude.{◌≡◌, ◌≤◌, ℕ, List, Option, IfSome, IfOk, IsErrOf, IsSome, vec_len};
 ghost use Rattle.ui_store.specs.Causes.{StoreCause};
-ghost use Rattle.ui_store.specs.Files.{Files, has_slash, texts, listing, reading};
+ghost use Rattle.ui_store.specs.Files.{has_slash, texts, listing, reading};
 ghost use Rattle.ui_store.specs.Listings.{IsListing};
-ghost use Rattle.ui_store.specs.Calls.{Calls, Hearings, Gives, Asks, Hears, Writes};
+ghost use Rattle.ui_store.specs.Calls.{Gives, Asks, Hears, Writes};
+ghost use Rattle.ui_store.specs.Views.{StoreView};
 ghost use Rattle.ui_store.specs.declared.store.Given.TheVariants as given;
 
 use crate::fault::StoreFault;
@@ -19,14 +20,14 @@ pub enum AskKind {
 }
 
 /// A call on a store: what it was, and of which folder or file.
-#[derive(Debug, Drop)]
+#[derive(Drop)]
 pub struct Asked {
     pub what: AskKind,
     pub name: Text,
 }
 
 /// What a call on a store gave.
-#[derive(Debug, Drop)]
+#[derive(Drop)]
 pub enum Given {
     /// The last parts of the names in a folder.
     Names(Texts),
@@ -37,7 +38,7 @@ pub enum Given {
 }
 
 /// A call on a store that gave something, with what it gave.
-#[derive(Debug, Drop)]
+#[derive(Drop)]
 pub struct Heard {
     pub what: AskKind,
     pub name: Text,
@@ -46,49 +47,48 @@ pub struct Heard {
 
 /// Files under names, as `src/a/a.go`. A folder is what stands before a `/`.
 pub trait Store {
-    /// The files, where the store tells them.
-    ghost files: { Self → Option Files };
-
-    /// The calls so far, where the store tells them. One that answered `NoMemory` may be missing.
-    ghost asked: { Self → Calls };
-
-    /// What the calls gave so far, where the store tells it.
-    ghost heard: { Self → Hearings };
-
-    /// How often the device has failed.
-    ghost faults: { Self → ℕ };
+    /// What the store tells: its files, its calls and what they gave, each where it tells it, and its count of faults.
+    ghost told: { Self → StoreView };
 
     /// The last parts of all names that are the folder, `/` and a rest without `/`, ascending. `Missing` where there is
     /// none.
     fn list(&mut self, alloc: Global, dir: &str) -> Result<Vec<String>, StoreFault>
-        ensures gives { IfSome (files self.old) (λ told. Gives texts result (listing told dir.now)) }
+        ensures gives { IfSome (told self.old).files
+            (λ files. Gives texts result (listing files dir.now)) }
         ensures listed { IfOk result (λ v. IsListing (texts v)) }
         ensures never { IsErrOf result StoreFault.TooLong → ⊥ }
 
-        ensures files { files self.new ≡ files self.old }
-        ensures asked { Asks result (asked self.old) (asked self.new) (AskKind.List, dir.now) }
-        ensures heard { Hears (λ v. given.Names (texts v)) result (heard self.old) (heard self.new) (AskKind.List, dir.now) }
-        ensures cause { StoreCause (faults self.old) (faults self.new) result };
+        ensures files { (told self.new).files ≡ (told self.old).files }
+        ensures asked { Asks result (told self.old).asked (told self.new).asked
+            (AskKind.List, dir.now) }
+        ensures heard { Hears (λ v. given.Names (texts v)) result
+            (told self.old).heard (told self.new).heard (AskKind.List, dir.now) }
+        ensures cause { StoreCause (told self.old).faults (told self.new).faults result };
 
     /// The bytes under a name. `TooLong` where there are more than `limit`.
     fn read(&mut self, alloc: Global, name: &str, limit: usize) -> Result<Vec<u8>, StoreFault>
-        ensures gives { IfSome (files self.old) (λ told. Gives (λ v. v.items) result (reading told name.now limit)) }
+        ensures gives { IfSome (told self.old).files
+            (λ files. Gives (λ v. v.items) result (reading files name.now limit)) }
         ensures bounded { IfOk result (λ v. vec_len v ≤ limit) }
 
-        ensures files { files self.new ≡ files self.old }
-        ensures asked { Asks result (asked self.old) (asked self.new) (AskKind.Read, name.now) }
-        ensures heard { Hears (λ v. given.Bytes v.items) result (heard self.old) (heard self.new) (AskKind.Read, name.now) }
-        ensures cause { StoreCause (faults self.old) (faults self.new) result };
+        ensures files { (told self.new).files ≡ (told self.old).files }
+        ensures asked { Asks result (told self.old).asked (told self.new).asked
+            (AskKind.Read, name.now) }
+        ensures heard { Hears (λ v. given.Bytes v.items) result
+            (told self.old).heard (told self.new).heard (AskKind.Read, name.now) }
+        ensures cause { StoreCause (told self.old).faults (told self.new).faults result };
 
     /// Puts bytes under a name. After `Failed` or `NoMemory` a front of them stands there, or the old contents.
     fn write(&mut self, alloc: Global, name: &str, bytes: &[u8]) -> Result<(), StoreFault>
-        ensures files { Writes result (files self.old) (files self.new) name.now bytes.now }
-        ensures asked { Asks result (asked self.old) (asked self.new) (AskKind.Write, name.now) }
-        ensures heard { heard self.new ≡ heard self.old }
-        ensures cause { StoreCause (faults self.old) (faults self.new) result };
+        ensures files { Writes result (told self.old).files (told self.new).files
+            name.now bytes.now }
+        ensures asked { Asks result (told self.old).asked (told self.new).asked
+            (AskKind.Write, name.now) }
+        ensures heard { (told self.new).heard ≡ (told self.old).heard }
+        ensures cause { StoreCause (told self.old).faults (told self.new).faults result };
 
     /// A store that tells its files tells its calls.
-    ghost tells_asked: { (s : Self) → IsSome (files s) → IsSome (asked s) };
+    ghost tells_asked: { (s : Self) → IsSome (told s).files → IsSome (told s).asked };
 }
 
 // Whether a name holds `/`.

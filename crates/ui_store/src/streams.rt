@@ -23,9 +23,7 @@ impl<R> InSource<R> {
 }
 
 impl<R: Read> Source for InSource<R> {
-    ghost left = { λ s. None };
-
-    ghost faults = { λ s. s.faults };
+    ghost told = { λ s. record { left = None; faults = s.faults } };
 
     #[tactic(auto, unfolding(crate::specs::Told::less))]
     fn read(&mut self, piece: &mut [u8]) -> Result<usize, IoFault> {
@@ -57,9 +55,7 @@ impl<W> OutSink<W> {
 }
 
 impl<W: Write> Sink for OutSink<W> {
-    ghost written = { λ s. None };
-
-    ghost faults = { λ s. s.faults };
+    ghost told = { λ s. record { written = None; faults = s.faults } };
 
     #[tactic(auto, unfolding(crate::specs::Told::more))]
     fn write(&mut self, piece: &[u8]) -> Result<usize, IoFault> {

@@ -6,14 +6,15 @@ use Rattle.ui_store.specs.Causes.{Rose}
 use Rattle.ui_store.specs.Told.{more, more_none}
 use Rattle.ui_store.specs.Sinks.{Partly, partly_none}
 use Rattle.ui_store.specs.Files.{Files}
+use Rattle.ui_store.specs.Views.{SinkView}
 use Rattle.ui_store.specs.Calls.{Hearing}
 use Rattle.ui_exports.specs.Export.{Export}
 use Rattle.ui_build.specs.Plan.{Text, Refusal, NoFile, Form, Faulty, TooLong, BadFrame, BadElement, TooMany, Cycle, Stale, Plan}
 use Rattle.ui_build.specs.Dump.{IsOfFile, IsReadStop}
 use Rattle.ui_top.specs.Answers.{answers}
 use Rattle.ui_top.specs.Outcome.{Outcome, Command, Build, Dump, outcome, plan_of, queries_of, of_plan, ends_of, out_of, line_of, refused_as, refusal_line}
-use Rattle.ui_build.specs.Stops.{State, state, Ends, Stops, DoesStop, Does, DoesTold, HasCause, StopCause, refusal_of}
-use Rattle.ui_top.specs.Ends.{SinkState, sink, Answered, EndsBy, EndsAnswered, EndsStopped, status_of, stop_line, answers_status, answers_line}
+use Rattle.ui_build.specs.Stops.{State, seen, Ends, Stops, DoesStop, Does, DoesTold, HasCause, StopCause, refusal_of}
+use Rattle.ui_top.specs.Ends.{Answered, EndsBy, EndsAnswered, EndsStopped, status_of, stop_line, answers_status, answers_line}
 use Rattle.ui_build.specs.Heard.{Hears, RefusedBy}
 use Rattle.ui_top.specs.Scene.{Scene, Said, Reached, Excused, Reaches, Refuses, Gives, Exported, RefusesPackage, FailsWriting, Caused, Runs, Completes, IsExcused}
 use Rattle.ui_top.specs.declared.answers.Unanswered.{Unanswered}
@@ -27,34 +28,36 @@ use Rattle.ui_build.proofs.Steps.{asks_all, puts_all}
 
 -- the store's part of a scene
 abbrev store_of : Scene → State
-store_of s = state s.files s.asked
-
--- the sinks of a scene
-abbrev pub out_of_scene : Scene → SinkState
-out_of_scene s = sink s.out s.out_faults
-
-abbrev pub err_of_scene : Scene → SinkState
-err_of_scene s = sink s.err s.err_faults
+store_of s = seen s.store
 
 -- ---- a command that was stopped
 
 refused_reaches : (queries : List Text) (plan : Plan Export) (old new : Scene) (r : Refusal) → plan.value ≡ Err r → Ends plan (store_of old) (store_of new) → new.out ≡ old.out → Said (refusal_line r) old new → Reached (of_plan queries plan) old new (refused_as r)
 refused_reaches queries plan old new r is ends out said = record {
   status = ap (ends_of queries) (sym is);
-  out = out ∙ sym (more_none old.out) ∙ ap (λ v. more old.out (out_of queries v)) (sym is);
+  out = ap (λ (o : SinkView). o.written) out ∙ sym (more_none old.out.written) ∙ ap (λ v. more old.out.written (out_of queries v)) (sym is);
   line = (let P : Result Export Refusal → Type 0 = λ v. Said (line_of v) old new in subst P (sym is) said);
-  asked = ends.asked;
-  files = ends.files;
+  done = record { asked = ends.asked; files = ends.files };
 }
 
-stops_excused : (queries : List Text) (plan : Plan Export) (old new : Scene) (ends : Status) → IsExcused ends → Stops plan (store_of old) (store_of new) → new.out ≡ old.out → Excused (of_plan queries plan) old new ends
-stops_excused queries plan old new ends excused stops out = record { status = excused; out = partly_none old.out new.out _ out; asked = stops.asked; files = stops.files }
+stops_excused : (queries : List Text) (plan : Plan Export) (old new : Scene) (ends : Status) → IsExcused ends → (ends ≡ status.OutFault → ⊥) → Stops plan (store_of old) (store_of new) → new.out ≡ old.out → Excused (of_plan queries plan) old new ends
+stops_excused queries plan old new ends excused other stops out = record { excused = excused; out = partly_none old.out.written new.out.written _ (ap (λ (o : SinkView). o.written) out); asked = stops.asked; files = stops.files; done = λ e. absurd (other e) }
+
+-- other ends than a fault of `out`
+read_other : status.ReadFault ≡ status.OutFault → ⊥
+read_other e = absurd cc
+
+write_other : status.WriteFault ≡ status.OutFault → ⊥
+write_other e = absurd cc
+
+memory_other : status.NoMemory ≡ status.OutFault → ⊥
+memory_other e = absurd cc
 
 stop_reaches : (queries : List Text) (plan : Plan Export) (old new : Scene) (s : Stop) → DoesStop plan (store_of old) (store_of new) s → new.out ≡ old.out → Said (stop_line s) old new → Reaches (of_plan queries plan) old new (status_of s)
 stop_reaches queries plan old new (stop.Refused r) does out said = inr (refused_reaches queries plan old new (refusal_of r) does.0 does.1 out said)
-stop_reaches queries plan old new (stop.ReadFault name) does out said = inl (stops_excused queries plan old new status.ReadFault tt does out)
-stop_reaches queries plan old new (stop.WriteFault name) does out said = inl (stops_excused queries plan old new status.WriteFault tt does out)
-stop_reaches queries plan old new stop.NoMemory does out said = inl (stops_excused queries plan old new status.NoMemory tt does out)
+stop_reaches queries plan old new (stop.ReadFault name) does out said = inl (stops_excused queries plan old new status.ReadFault tt read_other does out)
+stop_reaches queries plan old new (stop.WriteFault name) does out said = inl (stops_excused queries plan old new status.WriteFault tt write_other does out)
+stop_reaches queries plan old new stop.NoMemory does out said = inl (stops_excused queries plan old new status.NoMemory tt memory_other does out)
 
 -- what may stop a command before its answers
 abbrev pub MayStop : Command → Stop → Type 0
@@ -70,7 +73,7 @@ may_refuse (Build path queries) r may = tt
 may_refuse (Dump path queries) r may = may
 
 -- what was heard is why
-refuses : (old new : Scene) (r : Refusal) (heard : List Hearing) → new.heard ≡ more old.heard heard → RefusedBy r heard → Said (refusal_line r) old new → new.out ≡ old.out → Refuses old new (refused_as r)
+refuses : (old new : Scene) (r : Refusal) (heard : List Hearing) → new.store.heard ≡ more old.store.heard heard → RefusedBy r heard → Said (refusal_line r) old new → new.out ≡ old.out → Refuses old new (refused_as r)
 refuses old new r heard told by said out = record { refusal = r; heard = heard; told = told; refused = by; status = refl; line = said; out = out }
 
 refuses_package : (command : Command) (old new : Scene) (ends : Status) (r : Refusal) → (IsOfFile r → ⊥) → MayRefuse command r → Refuses old new ends → RefusesPackage command old new ends
@@ -90,13 +93,13 @@ refusal_caused command old new (Stale at first second) may by = refuses_package 
 
 -- a command that ended so by what it heard
 abbrev CommandHears : Command → Scene → Scene → Result Export Stop → Type 0
-CommandHears command old new result = Hears (Gives command) old.heard new.heard result
+CommandHears command old new result = Hears (Gives command) old.store new.store result
 
-fails_writing : (command : Command) (old new : Scene) (name : String Global) → MayStop command (stop.WriteFault name) → StopCause old.faults new.faults new.asked (stop.WriteFault name) → new.out ≡ old.out → Said (stop_line (stop.WriteFault name)) old new → FailsWriting command old new
+fails_writing : (command : Command) (old new : Scene) (name : String Global) → MayStop command (stop.WriteFault name) → StopCause old.store new.store (stop.WriteFault name) → new.out ≡ old.out → Said (stop_line (stop.WriteFault name)) old new → FailsWriting command old new
 fails_writing (Build path queries) old new name may cause out said = (cause.0, (string_bytes name, cause.1, said), out)
 fails_writing (Dump path queries) old new name may cause out said = absurd may
 
-stop_caused : (command : Command) (old new : Scene) (s : Stop) → MayStop command s → StopCause old.faults new.faults new.asked s → CommandHears command old new (Err s) → new.out ≡ old.out → Said (stop_line s) old new → Caused command old new (status_of s)
+stop_caused : (command : Command) (old new : Scene) (s : Stop) → MayStop command s → StopCause old.store new.store s → CommandHears command old new (Err s) → new.out ≡ old.out → Said (stop_line s) old new → Caused command old new (status_of s)
 stop_caused command old new (stop.Refused r) may cause hears out said = refusal_caused command old new (refusal_of r) (may_refuse command r may) (refuses old new (refusal_of r) hears.heard hears.told hears.ends said out)
 stop_caused command old new (stop.ReadFault name) may cause hears out said = (cause.0, (string_bytes name, cause.1, said), out)
 stop_caused command old new (stop.WriteFault name) may cause hears out said = fails_writing command old new name may cause out said
@@ -111,53 +114,49 @@ told_stop_reaches command (Some told) old new s does out said = stop_reaches (qu
 -- what neither the store nor the answers changed
 pub record Keeps (old new : Scene) : Type 0 where
   pub input : new.input ≡ old.input
-  pub input_faults : new.input_faults ≡ old.input_faults
   pub steps : new.steps ≡ old.steps
 
-stop_runs : (command : Command) (old new : Scene) (s : Stop) (ends : Status) → DoesTold (λ (e : Export). e) (λ told. plan_of told command) (store_of old) (store_of new) (Err s) → MayStop command s
-    → HasCause {X = Export} old.faults new.faults new.asked (Err s) → CommandHears command old new (Err s) → EndsStopped s (out_of_scene old) (out_of_scene new) (err_of_scene old) (err_of_scene new) ends → Keeps old new → Runs command old new ends
+stop_runs : (command : Command) (old new : Scene) (s : Stop) (ends : Status) → DoesTold (λ (e : Export). e) (λ told. plan_of told command) old.store new.store (Err s) → MayStop command s
+    → HasCause {X = Export} old.store new.store (Err s) → CommandHears command old new (Err s) → EndsStopped s old.out new.out old.err new.err ends → Keeps old new → Runs command old new ends
 stop_runs command old new s ends does may cause hears by keeps =
     let P : Status → Type 0 = Runs command old new in
-    let same : new.out ≡ old.out = ap (λ (o : SinkState). o.written) by.out in
-    let Q : ℕ → Type 0 = λ n. old.out_faults ≤ n in
+    let Q : ℕ → Type 0 = λ n. old.out.faults ≤ n in
     subst P (sym by.status) (record {
-      reaches = told_stop_reaches command old.files old new s does same by.line;
-      caused = stop_caused command old new s may cause.stop hears same by.line;
+      reaches = told_stop_reaches command old.store.files old new s does by.out by.line;
+      caused = stop_caused command old new s may cause.stop hears by.out by.line;
       store_count = cause.later;
-      out_count = subst Q (sym (ap (λ (o : SinkState). o.faults) by.out)) (omega arith);
+      out_count = subst Q (sym (ap (λ (o : SinkView). o.faults) by.out)) (omega arith);
       err_count = by.line.later;
       input = keeps.input;
-      input_count = keeps.input_faults;
       steps = keeps.steps;
     })
 
 -- ---- a command whose queries were answered
 
 abbrev CommandAnswered : Export → List Text → Scene → Scene → Result Bool Unanswered → Type 0
-CommandAnswered export queries old new answered = Answered export queries (out_of_scene old) (out_of_scene new) answered
+CommandAnswered export queries old new answered = Answered export queries old.out new.out answered
 
 answers_reached : (queries : List Text) (plan : Plan Export) (export : Export) (old new : Scene) (all : Bool) → plan.value ≡ Ok export → Ends plan (store_of old) (store_of new) → CommandAnswered export queries old new (Ok all) → Said [] old new → Reached (of_plan queries plan) old new (answers_status (Ok all))
 answers_reached queries plan export old new true is ends a said = record {
   status = ap (λ b. cond b status.Ok status.QueryRefused) a.all ∙ ap (ends_of queries) (sym is);
-  out = a.written ∙ ap (λ v. more old.out (out_of queries v)) (sym is);
+  out = a.written ∙ ap (λ v. more old.out.written (out_of queries v)) (sym is);
   line = (let P : Result Export Refusal → Type 0 = λ v. Said (line_of v) old new in subst P (sym is) said);
-  asked = ends.asked;
-  files = ends.files;
+  done = record { asked = ends.asked; files = ends.files };
 }
 answers_reached queries plan export old new false is ends a said = record {
   status = ap (λ b. cond b status.Ok status.QueryRefused) a.all ∙ ap (ends_of queries) (sym is);
-  out = a.written ∙ ap (λ v. more old.out (out_of queries v)) (sym is);
+  out = a.written ∙ ap (λ v. more old.out.written (out_of queries v)) (sym is);
   line = (let P : Result Export Refusal → Type 0 = λ v. Said (line_of v) old new in subst P (sym is) said);
-  asked = ends.asked;
-  files = ends.files;
+  done = record { asked = ends.asked; files = ends.files };
 }
 
-answers_excused : (queries : List Text) (plan : Plan Export) (export : Export) (old new : Scene) (ends : Status) → IsExcused ends → plan.value ≡ Ok export → Ends plan (store_of old) (store_of new) → Partly old.out new.out (answers export queries) → Excused (of_plan queries plan) old new ends
+answers_excused : (queries : List Text) (plan : Plan Export) (export : Export) (old new : Scene) (ends : Status) → IsExcused ends → plan.value ≡ Ok export → Ends plan (store_of old) (store_of new) → Partly old.out.written new.out.written (answers export queries) → Excused (of_plan queries plan) old new ends
 answers_excused queries plan export old new ends excused is e part = record {
-  status = excused;
-  out = (let P : Result Export Refusal → Type 0 = λ v. Partly old.out new.out (out_of queries v) in subst P (sym is) part);
-  asked = asks_all plan.asks old.asked new.asked e.asked;
-  files = puts_all plan.puts old.files new.files e.files;
+  excused = excused;
+  out = (let P : Result Export Refusal → Type 0 = λ v. Partly old.out.written new.out.written (out_of queries v) in subst P (sym is) part);
+  asked = asks_all plan.asks old.store.asked new.store.asked e.asked;
+  files = puts_all plan.puts old.store.files new.store.files e.files;
+  done = λ _. record { asked = e.asked; files = e.files };
 }
 
 answers_reach : (queries : List Text) (plan : Plan Export) (export : Export) (old new : Scene) (answered : Result Bool Unanswered) → plan.value ≡ Ok export → Ends plan (store_of old) (store_of new) → CommandAnswered export queries old new answered → Said (answers_line answered) old new → Reaches (of_plan queries plan) old new (answers_status answered)
@@ -180,24 +179,23 @@ unfolding outcome
 told_answers_reach command export None old new answered does a said = tt
 told_answers_reach command export (Some told) old new answered does a said = answers_reach (queries_of command) (plan_of told command) export old new answered does.0 does.1 a said
 
-answer_runs : (command : Command) (export : Export) (old new : Scene) (ends : Status) → DoesTold (λ (e : Export). e) (λ told. plan_of told command) (store_of old) (store_of new) (Ok export) → old.faults ≤ new.faults
-    → CommandHears command old new (Ok export) → EndsAnswered export (queries_of command) (out_of_scene old) (out_of_scene new) (err_of_scene old) (err_of_scene new) ends → Keeps old new → Runs command old new ends
+answer_runs : (command : Command) (export : Export) (old new : Scene) (ends : Status) → DoesTold (λ (e : Export). e) (λ told. plan_of told command) old.store new.store (Ok export) → old.store.faults ≤ new.store.faults
+    → CommandHears command old new (Ok export) → EndsAnswered export (queries_of command) old.out new.out old.err new.err ends → Keeps old new → Runs command old new ends
 answer_runs command export old new ends does later hears by keeps =
     let P : Status → Type 0 = Runs command old new in
     subst P (sym by.status) (record {
-      reaches = told_answers_reach command export old.files old new by.answered does by.out by.line;
+      reaches = told_answers_reach command export old.store.files old new by.answered does by.out by.line;
       caused = answers_caused command export old new by.answered hears by.out by.line;
       store_count = later;
       out_count = by.out.later;
       err_count = by.line.later;
       input = keeps.input;
-      input_count = keeps.input_faults;
       steps = keeps.steps;
     })
 
 -- a command by what a package exports, or by what stopped it
-pub runs : (command : Command) (old new : Scene) (result : Result Export Stop) (ends : Status) → DoesTold (λ (e : Export). e) (λ told. plan_of told command) (store_of old) (store_of new) result → IfErr result (MayStop command)
-    → HasCause old.faults new.faults new.asked result → CommandHears command old new result → EndsBy result (queries_of command) (out_of_scene old) (out_of_scene new) (err_of_scene old) (err_of_scene new) ends → Keeps old new → Runs command old new ends
+pub runs : (command : Command) (old new : Scene) (result : Result Export Stop) (ends : Status) → DoesTold (λ (e : Export). e) (λ told. plan_of told command) old.store new.store result → IfErr result (MayStop command)
+    → HasCause old.store new.store result → CommandHears command old new result → EndsBy result (queries_of command) old.out new.out old.err new.err ends → Keeps old new → Runs command old new ends
 runs command old new (Ok export) ends does may cause hears by keeps = answer_runs command export old new ends does cause.later hears by keeps
 runs command old new (Err s) ends does may cause hears by keeps = stop_runs command old new s ends does may cause hears by keeps
 
@@ -208,11 +206,11 @@ always (Err y) = tt
 -- ---- where no device fails
 
 -- a write failed only where the store's count rose
-write_rose : (command : Command) (old new : Scene) → FailsWriting command old new → Rose old.faults new.faults
+write_rose : (command : Command) (old new : Scene) → FailsWriting command old new → Rose old.store.faults new.store.faults
 write_rose (Build path queries) old new fails = fails.0
 write_rose (Dump path queries) old new fails = absurd fails
 
-excused_completes : (command : Command) (want : Outcome) (old new : Scene) (ends : Status) → IsExcused ends → Caused command old new ends → ¬ (Rose old.faults new.faults) → ¬ (Rose old.out_faults new.out_faults) → (ends ≡ status.NoMemory) ⊎ Reached want old new ends
+excused_completes : (command : Command) (want : Outcome) (old new : Scene) (ends : Status) → IsExcused ends → Caused command old new ends → ¬ (Rose old.store.faults new.store.faults) → ¬ (Rose old.out.faults new.out.faults) → (ends ≡ status.NoMemory) ⊎ Reached want old new ends
 excused_completes command want old new status.ReadFault excused caused store out = absurd (store caused.0)
 excused_completes command want old new status.WriteFault excused caused store out = absurd (store (write_rose command old new caused))
 excused_completes command want old new status.OutFault excused caused store out = absurd (out caused.0)
@@ -226,17 +224,17 @@ excused_completes command want old new status.Stale excused caused store out = a
 excused_completes command want old new status.QueryRefused excused caused store out = absurd excused
 excused_completes command want old new status.InputTooLong excused caused store out = absurd excused
 
-reaches_completes : (command : Command) (want : Outcome) (old new : Scene) (ends : Status) → Reaches want old new ends → Caused command old new ends → ¬ (Rose old.faults new.faults) → ¬ (Rose old.out_faults new.out_faults) → (ends ≡ status.NoMemory) ⊎ Reached want old new ends
-reaches_completes command want old new ends (inl excused) caused store out = excused_completes command want old new ends excused.status caused store out
+reaches_completes : (command : Command) (want : Outcome) (old new : Scene) (ends : Status) → Reaches want old new ends → Caused command old new ends → ¬ (Rose old.store.faults new.store.faults) → ¬ (Rose old.out.faults new.out.faults) → (ends ≡ status.NoMemory) ⊎ Reached want old new ends
+reaches_completes command want old new ends (inl excused) caused store out = excused_completes command want old new ends excused.excused caused store out
 reaches_completes command want old new ends (inr reached) caused store out = inr reached
 
 completes_at : (command : Command) (files : Option Files) (old new : Scene) (ends : Status) → IfSome files (λ told. Reaches (outcome told command) old new ends) → Caused command old new ends
-    → IfSome files (λ told. ¬ (Rose old.faults new.faults) → ¬ (Rose old.out_faults new.out_faults) → (ends ≡ status.NoMemory) ⊎ Reached (outcome told command) old new ends)
+    → IfSome files (λ told. ¬ (Rose old.store.faults new.store.faults) → ¬ (Rose old.out.faults new.out.faults) → (ends ≡ status.NoMemory) ⊎ Reached (outcome told command) old new ends)
 completes_at command None old new ends reaches caused = tt
 completes_at command (Some told) old new ends reaches caused = λ store out. reaches_completes command (outcome told command) old new ends reaches caused store out
 
 pub completes : (command : Command) (old new : Scene) (ends : Status) → Runs command old new ends → Completes command old new ends
-completes command old new ends runs = completes_at command old.files old new ends runs.reaches runs.caused
+completes command old new ends runs = completes_at command old.store.files old new ends runs.reaches runs.caused
 
 -- ---- the command that the words spell
 

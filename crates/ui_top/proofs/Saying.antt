@@ -3,6 +3,7 @@ use Rattle.std.proofs.Common.{◌≡◌, ◌∙◌, ap, ◌++◌, List, [], ℕ,
 use Rattle.std.specs.Prelude.{OnErr}
 use Rattle.ui_store.specs.Told.{more, more_none, more_twice}
 use Rattle.ui_store.specs.Sinks.{Partly, partly_none, partly_first, partly_next}
+use Rattle.ui_store.specs.Views.{SinkView}
 use Rattle.ui_top.specs.Scene.{Says}
 
 pub on_err : {A E P : Type 0} (r : Result A E) → P → OnErr r P
@@ -21,5 +22,5 @@ third_fails old one two new a b c p q r = partly_next old two new (a ++ b) c (q 
 pub all_written : (old one two new : Option (List ℕ)) (a b c : List ℕ) → one ≡ more old a → two ≡ more one b → new ≡ more two c → new ≡ more old (a ++ b ++ c)
 all_written old one two new a b c p q r = r ∙ ap (λ o. more o c) (q ∙ ap (λ o. more o b) p ∙ more_twice old a b) ∙ more_twice old (a ++ b) c
 
-pub says_nothing : (before : ℕ) (old : Option (List ℕ)) → Says [] before before old old
-says_nothing before old = record { later = omega arith; whole = λ _. sym (more_none old); part = partly_none old old [] refl }
+pub says_nothing : (s : SinkView) → Says [] s s
+says_nothing s = record { later = omega arith; whole = λ _. sym (more_none s.written); part = partly_none s.written s.written [] refl }

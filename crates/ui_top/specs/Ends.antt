@@ -1,8 +1,9 @@
 -- How a command ends, and what it says, that was stopped or has answered.
-use Rattle.std.specs.Prelude.{◌≡◌, ℕ, ◌≤◌, Bool, true, false, List, [], Option, Result, Ok, Err, IfOk, OnErr, IsErrOf, codes, string_bytes}
+use Rattle.std.specs.Prelude.{◌≡◌, ◌≤◌, Bool, true, false, List, [], Result, Ok, Err, IfOk, OnErr, IsErrOf, codes, string_bytes}
 use Rattle.ui_store.specs.Causes.{Rose}
 use Rattle.ui_store.specs.Told.{more}
 use Rattle.ui_store.specs.Sinks.{Partly}
+use Rattle.ui_store.specs.Views.{SinkView}
 use Rattle.ui_exports.specs.Export.{Export}
 use Rattle.ui_build.specs.Plan.{Text}
 use Rattle.ui_top.specs.Answers.{answers, are_answered}
@@ -39,40 +40,28 @@ answers_line (Ok all) = []
 answers_line (Err unanswered.OutFault) = line (codes "output fault") []
 answers_line (Err unanswered.NoMemory) = line (codes "no memory") []
 
--- what a sink tells at a moment, and its count of faults
-pub record SinkState : Type 0 where
-  pub written : Option Text
-  pub faults : ℕ
-
-abbrev pub sink : Option Text → ℕ → SinkState
-sink written faults = record { written = written; faults = faults }
-
 -- What answering leaves on `out`, as far as it came.
-pub record Answered (export : Export) (queries : List Text) (old new : SinkState) (answered : Result Bool Unanswered) : Type 0 where
+pub record Answered (export : Export) (queries : List Text) (old new : SinkView) (answered : Result Bool Unanswered) : Type 0 where
   pub all : IfOk answered (λ all. all ≡ are_answered export queries)
   pub written : IfOk answered (λ _. new.written ≡ more old.written (answers export queries))
   pub part : OnErr answered (Partly old.written new.written (answers export queries))
   pub later : old.faults ≤ new.faults
   pub fault : IsErrOf answered unanswered.OutFault → Rose old.faults new.faults
 
--- a text is written on `err`
-abbrev pub SaysOn : Text → SinkState → SinkState → Type 0
-SaysOn text old new = Says text old.faults new.faults old.written new.written
-
 -- The queries were answered by what a package exports, and `err` says how that ended.
-pub record EndsAnswered (export : Export) (queries : List Text) (out_old out_new err_old err_new : SinkState) (ends : Status) : Type 0 where
+pub record EndsAnswered (export : Export) (queries : List Text) (out_old out_new err_old err_new : SinkView) (ends : Status) : Type 0 where
   pub answered : Result Bool Unanswered
   pub out : Answered export queries out_old out_new answered
-  pub line : SaysOn (answers_line answered) err_old err_new
+  pub line : Says (answers_line answered) err_old err_new
   pub status : ends ≡ answers_status answered
 
 -- The command was stopped: `err` says why, and `out` stays.
-pub record EndsStopped (why : Stop) (out_old out_new err_old err_new : SinkState) (ends : Status) : Type 0 where
+pub record EndsStopped (why : Stop) (out_old out_new err_old err_new : SinkView) (ends : Status) : Type 0 where
   pub out : out_new ≡ out_old
-  pub line : SaysOn (stop_line why) err_old err_new
+  pub line : Says (stop_line why) err_old err_new
   pub status : ends ≡ status_of why
 
 -- How a command ends by what a package exports, or by what stopped it.
-abbrev pub EndsBy : Result Export Stop → List Text → SinkState → SinkState → SinkState → SinkState → Status → Type 0
+abbrev pub EndsBy : Result Export Stop → List Text → SinkView → SinkView → SinkView → SinkView → Status → Type 0
 EndsBy (Ok export) queries out_old out_new err_old err_new ends = EndsAnswered export queries out_old out_new err_old err_new ends
 EndsBy (Err s) queries out_old out_new err_old err_new ends = EndsStopped s out_old out_new err_old err_new ends

@@ -1,10 +1,10 @@
 -- What a command does: its outcome, or a front of it where a device or memory ended it; and the cause of each end.
-use Rattle.std.specs.Prelude.{◌≡◌, ◌⊎◌, ℕ, ◌≤◌, List, [], Option, IfSome, codes, ⊤}
+use Rattle.std.specs.Prelude.{◌≡◌, ◌⊎◌, ℕ, ◌≤◌, List, [], IfSome, codes, ⊤}
 use Rattle.ui_store.specs.Causes.{Rose}
 use Rattle.ui_store.specs.Told.{more}
 use Rattle.ui_store.specs.Sinks.{Partly}
-use Rattle.ui_store.specs.Files.{Files}
-use Rattle.ui_store.specs.Calls.{Calls, Hearing, Hearings}
+use Rattle.ui_store.specs.Calls.{Calls, Hearing}
+use Rattle.ui_store.specs.Views.{StoreView, SourceView, SinkView}
 use Rattle.ui_store.specs.declared.store.AskKind.TheVariants as ask
 use Rattle.ui_exports.specs.Export.{Export}
 use Rattle.ui_build.specs.Plan.{Text, Refusal}
@@ -16,43 +16,25 @@ use Rattle.ui_top.specs.Outcome.{Outcome, Command, Build, Dump, outcome, queries
 use Rattle.ui_top.specs.declared.status.Status.{Status}
 use Rattle.ui_top.specs.declared.status.Status.TheVariants as status
 
--- What the store, the source, the sinks and the counter tell at a moment, with the counts of faults.
+-- What the store, the source, the sinks and the counter tell at a moment.
 pub record Scene : Type 0 where
-  pub files : Option Files
-  pub asked : Calls
-  pub heard : Hearings
-  pub faults : ℕ
-  pub input : Option Text
-  pub input_faults : ℕ
-  pub out : Option Text
-  pub out_faults : ℕ
-  pub err : Option Text
-  pub err_faults : ℕ
+  pub store : StoreView
+  pub input : SourceView
+  pub out : SinkView
+  pub err : SinkView
   pub steps : ℕ
 
-abbrev pub scene : Option Files → Calls → Hearings → ℕ → Option Text → ℕ → Option Text → ℕ → Option Text → ℕ → ℕ → Scene
-scene files asked heard faults input input_faults out out_faults err err_faults steps = record {
-  files = files;
-  asked = asked;
-  heard = heard;
-  faults = faults;
-  input = input;
-  input_faults = input_faults;
-  out = out;
-  out_faults = out_faults;
-  err = err;
-  err_faults = err_faults;
-  steps = steps;
-}
+abbrev pub scene : StoreView → SourceView → SinkView → SinkView → ℕ → Scene
+scene store input out err steps = record { store = store; input = input; out = out; err = err; steps = steps }
 
 -- A text is written on `err`, whole where its count didn't rise, and else a front of it.
-pub record Says (text : Text) (before now : ℕ) (old new : Option Text) : Type 0 where
-  pub later : before ≤ now
-  pub whole : ¬ (Rose before now) → new ≡ more old text
-  pub part : Partly old new text
+pub record Says (text : Text) (old new : SinkView) : Type 0 where
+  pub later : old.faults ≤ new.faults
+  pub whole : ¬ (Rose old.faults new.faults) → new.written ≡ more old.written text
+  pub part : Partly old.written new.written text
 
 abbrev pub Said : Text → Scene → Scene → Type 0
-Said text old new = Says text old.err_faults new.err_faults old.err new.err
+Said text old new = Says text old.err new.err
 
 -- how a command ends that a device's fault or want of memory ended
 abbrev pub IsExcused : Status → Type 0
@@ -69,21 +51,26 @@ IsExcused status.Stale = ⊥
 IsExcused status.QueryRefused = ⊥
 IsExcused status.InputTooLong = ⊥
 
+-- All calls of the outcome were asked, and all of its files written.
+pub record Done (want : Outcome) (old new : Scene) : Type 0 where
+  pub asked : new.store.asked ≡ more old.store.asked want.asks
+  pub files : Puts want.puts old.store.files new.store.files
+
 -- The command ended as its outcome says.
 pub record Reached (want : Outcome) (old new : Scene) (ends : Status) : Type 0 where
   pub status : ends ≡ want.ends
-  pub out : new.out ≡ more old.out want.out
+  pub out : new.out.written ≡ more old.out.written want.out
   pub line : Said want.line old new
-  pub asked : new.asked ≡ more old.asked want.asks
-  pub files : Puts want.puts old.files new.files
+  pub done : Done want old new
 
 -- A fault of a device or want of memory ended it: a front of its bytes is written, a front of its calls asked, and a
--- front of its files written.
+-- front of its files written. At a fault of `out` all calls were asked and all files written before.
 pub record Excused (want : Outcome) (old new : Scene) (ends : Status) : Type 0 where
-  pub status : IsExcused ends
-  pub out : Partly old.out new.out want.out
-  pub asked : AsksFront want.asks old.asked new.asked
-  pub files : PutsFront want.puts old.files new.files
+  pub excused : IsExcused ends
+  pub out : Partly old.out.written new.out.written want.out
+  pub asked : AsksFront want.asks old.store.asked new.store.asked
+  pub files : PutsFront want.puts old.store.files new.store.files
+  pub done : ends ≡ status.OutFault → Done want old new
 
 abbrev pub Reaches : Outcome → Scene → Scene → Status → Type 0
 Reaches want old new ends = Excused want old new ends ⊎ Reached want old new ends
@@ -96,7 +83,7 @@ ReadLast asked name = EndsWith asked (ask.List, name) ⊎ EndsWith asked (ask.Re
 pub record Refuses (old new : Scene) (ends : Status) : Type 0 where
   pub refusal : Refusal
   pub heard : List Hearing
-  pub told : new.heard ≡ more old.heard heard
+  pub told : new.store.heard ≡ more old.store.heard heard
   pub refused : RefusedBy refusal heard
   pub status : ends ≡ refused_as refusal
   pub line : Said (refusal_line refusal) old new
@@ -111,7 +98,7 @@ Gives (Dump path queries) export heard = Dumps path export heard
 -- What was heard comes to this export.
 pub record Exported (command : Command) (export : Export) (old new : Scene) : Type 0 where
   pub heard : List Hearing
-  pub told : new.heard ≡ more old.heard heard
+  pub told : new.store.heard ≡ more old.store.heard heard
   pub gives : Gives command export heard
 
 -- The queries were answered by the linked file as it was heard.
@@ -119,16 +106,16 @@ pub record Answers (command : Command) (old new : Scene) (ends : Status) : Type 
   pub export : Export
   pub exported : Exported command export old new
   pub status : ends ≡ answers_end export (queries_of command)
-  pub out : new.out ≡ more old.out (answers export (queries_of command))
+  pub out : new.out.written ≡ more old.out.written (answers export (queries_of command))
   pub line : Said [] old new
 
 -- a front of those answers is written
 abbrev pub AnswersPartly : Command → Scene → Scene → Type 0
-AnswersPartly command old new = (export : Export) × Exported command export old new × Partly old.out new.out (answers export (queries_of command))
+AnswersPartly command old new = (export : Export) × Exported command export old new × Partly old.out.written new.out.written (answers export (queries_of command))
 
 -- A fault of a write ended it, which a command that writes nothing never has.
 abbrev pub FailsWriting : Command → Scene → Scene → Type 0
-FailsWriting (Build path queries) old new = Rose old.faults new.faults × ((name : Text) × EndsWith new.asked (ask.Write, name) × Said (line (codes "write fault: ") name) old new) × (new.out ≡ old.out)
+FailsWriting (Build path queries) old new = Rose old.store.faults new.store.faults × ((name : Text) × EndsWith new.store.asked (ask.Write, name) × Said (line (codes "write fault: ") name) old new) × (new.out ≡ old.out)
 FailsWriting (Dump path queries) old new = ⊥
 
 -- It was refused by sources, or by linked files that don't fit together, which a command that reads one file never is.
@@ -139,9 +126,9 @@ RefusesPackage (Dump path queries) old new ends = ⊥
 -- Why a command ends so, over every store, source and sink: a fault comes from its device, whose count rose, and names
 -- the last call; a refusal and the answers come from what the store gave; and which ends a command has.
 abbrev pub Caused : Command → Scene → Scene → Status → Type 0
-Caused command old new status.ReadFault = Rose old.faults new.faults × ((name : Text) × ReadLast new.asked name × Said (line (codes "read fault: ") name) old new) × (new.out ≡ old.out)
+Caused command old new status.ReadFault = Rose old.store.faults new.store.faults × ((name : Text) × ReadLast new.store.asked name × Said (line (codes "read fault: ") name) old new) × (new.out ≡ old.out)
 Caused command old new status.WriteFault = FailsWriting command old new
-Caused command old new status.OutFault = Rose old.out_faults new.out_faults × Said (line (codes "output fault") []) old new × AnswersPartly command old new
+Caused command old new status.OutFault = Rose old.out.faults new.out.faults × Said (line (codes "output fault") []) old new × AnswersPartly command old new
 Caused command old new status.NoMemory = Said (line (codes "no memory") []) old new × ((new.out ≡ old.out) ⊎ AnswersPartly command old new)
 Caused command old new status.Usage = ⊥
 Caused command old new status.InputTooLong = ⊥
@@ -155,28 +142,25 @@ Caused command old new status.Stale = RefusesPackage command old new status.Stal
 -- What a command does.
 pub record Runs (command : Command) (old new : Scene) (ends : Status) : Type 0 where
   -- over a store that tells its files: the outcome by the sources alone, or by the file that is dumped
-  pub reaches : IfSome old.files (λ told. Reaches (outcome told command) old new ends)
+  pub reaches : IfSome old.store.files (λ told. Reaches (outcome told command) old new ends)
   -- over every store, source and sink
   pub caused : Caused command old new ends
   -- no count of faults falls, and what the command has no use for stays
-  pub store_count : old.faults ≤ new.faults
-  pub out_count : old.out_faults ≤ new.out_faults
-  pub err_count : old.err_faults ≤ new.err_faults
+  pub store_count : old.store.faults ≤ new.store.faults
+  pub out_count : old.out.faults ≤ new.out.faults
+  pub err_count : old.err.faults ≤ new.err.faults
   pub input : new.input ≡ old.input
-  pub input_count : new.input_faults ≡ old.input_faults
   pub steps : new.steps ≡ old.steps
 
--- Words that spell no command: nothing but the usage is written, and nothing is asked.
+-- Words that spell no command: nothing but the usage is written, nothing is asked, and no count but that of `err` rises.
 pub record RunsUsage (old new : Scene) (ends : Status) : Type 0 where
   pub status : ends ≡ status.Usage
   pub line : Said usage old new
-  pub files : new.files ≡ old.files
-  pub asked : new.asked ≡ old.asked
-  pub heard : new.heard ≡ old.heard
+  pub store : new.store ≡ old.store
   pub out : new.out ≡ old.out
   pub input : new.input ≡ old.input
   pub steps : new.steps ≡ old.steps
 
 -- Where the store tells its files and no count rose, the command ends as its outcome says, or for want of memory.
 abbrev pub Completes : Command → Scene → Scene → Status → Type 0
-Completes command old new ends = IfSome old.files (λ told. ¬ (Rose old.faults new.faults) → ¬ (Rose old.out_faults new.out_faults) → (ends ≡ status.NoMemory) ⊎ Reached (outcome told command) old new ends)
+Completes command old new ends = IfSome old.store.files (λ told. ¬ (Rose old.store.faults new.store.faults) → ¬ (Rose old.out.faults new.out.faults) → (ends ≡ status.NoMemory) ⊎ Reached (outcome told command) old new ends)

@@ -78,8 +78,10 @@ fn no_such(alloc: Global, path: &[u8], name: &[u8]) -> Result<Vec<u8>, AllocErro
 
 // The answer about a name.
 fn answer_about(alloc: Global, of: &Package, name: &[u8]) -> Result<Answer, AllocError>
-    ensures text { IfOk result (λ a. a.text.items ≡ (answer_about of.now.path name.now (value_of of.now name.now)).0) }
-    ensures answered { IfOk result (λ a. a.is_answered ≡ (answer_about of.now.path name.now (value_of of.now name.now)).1) }
+    ensures text { IfOk result
+        (λ a. a.text.items ≡ (answer_about of.now.path name.now (value_of of.now name.now)).0) }
+    ensures answered { IfOk result
+        (λ a. a.is_answered ≡ (answer_about of.now.path name.now (value_of of.now name.now)).1) }
 {
     match of.value(name) {
         Some(value) => {
@@ -122,10 +124,15 @@ pub fn answer_all<O: Sink>(
     out: &mut O,
 ) -> Result<bool, Unanswered>
     ensures all { IfOk result (λ all. all ≡ are_answered of.now (words_of queries.now)) }
-    ensures written { IfOk result (λ _. O.written out.new ≡ more (O.written out.old) (answers of.now (words_of queries.now))) }
-    ensures part { OnErr result (Partly (O.written out.old) (O.written out.new) (answers of.now (words_of queries.now))) }
-    ensures later { O.faults out.old ≤ O.faults out.new }
-    ensures fault { IsErrOf result Unanswered.OutFault → Rose (O.faults out.old) (O.faults out.new) }
+    ensures written { IfOk result
+        (λ _. (O.told out.new).written ≡ more (O.told out.old).written
+        (answers of.now (words_of queries.now))) }
+    ensures part { OnErr result
+        (Partly (O.told out.old).written (O.told out.new).written
+        (answers of.now (words_of queries.now))) }
+    ensures later { (O.told out.old).faults ≤ (O.told out.new).faults }
+    ensures fault { IsErrOf result Unanswered.OutFault →
+        Rose (O.told out.old).faults (O.told out.new).faults }
 {
     let mut all = true;
     for query in queries {

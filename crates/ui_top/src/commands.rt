@@ -1,7 +1,8 @@
 // The commands.
-ghost use Rattle.std.specs.Prelude.{◌≡◌, ℕ, List, Option, None, Some, option_map};
+ghost use Rattle.std.specs.Prelude.{◌≡◌, ℕ, None, Some, option_map};
+ghost use Rattle.ui_store.specs.Views.{SourceView};
 ghost use Rattle.ui_top.specs.Invocations.{command_as};
-ghost use Rattle.ui_top.specs.Ends.{sink, EndsBy};
+ghost use Rattle.ui_top.specs.Ends.{EndsBy};
 ghost use Rattle.ui_top.specs.Outcome.{Command, Build, Dump, command_at, command_of, words_of, usage};
 ghost use Rattle.ui_top.specs.Scene.{scene, Runs, RunsUsage, Completes};
 
@@ -33,7 +34,8 @@ fn answer_by<O: Sink, E: Sink>(
     out: &mut O,
     err: &mut E,
 ) -> Status
-    ensures { EndsBy exported (words_of queries.now) (sink (O.written out.old) (O.faults out.old)) (sink (O.written out.new) (O.faults out.new)) (sink (E.written err.old) (E.faults err.old)) (sink (E.written err.new) (E.faults err.new)) result }
+    ensures { EndsBy exported (words_of queries.now)
+        (O.told out.old) (O.told out.new) (E.told err.old) (E.told err.new) result }
 {
     match exported {
         Ok(package) => {
@@ -53,9 +55,9 @@ fn run_build<S: Store, O: Sink, E: Sink>(
     out: &mut O,
     err: &mut E,
 ) -> Status
-    ensures { (input : Option (List ℕ)) (input_faults steps : ℕ) → Runs (Build path.now (words_of queries.now))
-        (scene (S.files store.old) (S.asked store.old) (S.heard store.old) (S.faults store.old) input input_faults (O.written out.old) (O.faults out.old) (E.written err.old) (E.faults err.old) steps)
-        (scene (S.files store.new) (S.asked store.new) (S.heard store.new) (S.faults store.new) input input_faults (O.written out.new) (O.faults out.new) (E.written err.new) (E.faults err.new) steps) result }
+    ensures { (input : SourceView) (steps : ℕ) → Runs (Build path.now (words_of queries.now))
+        (scene (S.told store.old) input (O.told out.old) (E.told err.old) steps)
+        (scene (S.told store.new) input (O.told out.new) (E.told err.new) steps) result }
 {
     let exported = build(alloc, store, path);
     answer_by(alloc, exported, queries, out, err)
@@ -70,9 +72,9 @@ fn run_dump<S: Store, O: Sink, E: Sink>(
     out: &mut O,
     err: &mut E,
 ) -> Status
-    ensures { (input : Option (List ℕ)) (input_faults steps : ℕ) → Runs (Dump path.now (words_of queries.now))
-        (scene (S.files store.old) (S.asked store.old) (S.heard store.old) (S.faults store.old) input input_faults (O.written out.old) (O.faults out.old) (E.written err.old) (E.faults err.old) steps)
-        (scene (S.files store.new) (S.asked store.new) (S.heard store.new) (S.faults store.new) input input_faults (O.written out.new) (O.faults out.new) (E.written err.new) (E.faults err.new) steps) result }
+    ensures { (input : SourceView) (steps : ℕ) → Runs (Dump path.now (words_of queries.now))
+        (scene (S.told store.old) input (O.told out.old) (E.told err.old) steps)
+        (scene (S.told store.new) input (O.told out.new) (E.told err.new) steps) result }
 {
     let exported = dump(alloc, store, path);
     answer_by(alloc, exported, queries, out, err)
@@ -122,16 +124,19 @@ pub fn run<S: Store, I: Source, O: Sink, E: Sink, L: Ledger>(
 ) -> Status
     // Words that spell no command.
     ensures usage { command_of (words_of words.now) ≡ None → RunsUsage
-        (scene (S.files store.old) (S.asked store.old) (S.heard store.old) (S.faults store.old) (I.left input.old) (I.faults input.old) (O.written out.old) (O.faults out.old) (E.written err.old) (E.faults err.old) steps.old)
-        (scene (S.files store.new) (S.asked store.new) (S.heard store.new) (S.faults store.new) (I.left input.new) (I.faults input.new) (O.written out.new) (O.faults out.new) (E.written err.new) (E.faults err.new) steps.new) result }
+        (scene (S.told store.old) (I.told input.old) (O.told out.old) (E.told err.old) steps.old)
+        (scene (S.told store.new) (I.told input.new) (O.told out.new) (E.told err.new) steps.new)
+        result }
     // The outcome by the sources alone, or by the file that is dumped, and the cause of each other end.
     ensures runs { (c : Command) → command_of (words_of words.now) ≡ Some c → Runs c
-        (scene (S.files store.old) (S.asked store.old) (S.heard store.old) (S.faults store.old) (I.left input.old) (I.faults input.old) (O.written out.old) (O.faults out.old) (E.written err.old) (E.faults err.old) steps.old)
-        (scene (S.files store.new) (S.asked store.new) (S.heard store.new) (S.faults store.new) (I.left input.new) (I.faults input.new) (O.written out.new) (O.faults out.new) (E.written err.new) (E.faults err.new) steps.new) result }
+        (scene (S.told store.old) (I.told input.old) (O.told out.old) (E.told err.old) steps.old)
+        (scene (S.told store.new) (I.told input.new) (O.told out.new) (E.told err.new) steps.new)
+        result }
     // Where no device fails, the outcome is reached unless memory runs out.
     ensures completes { (c : Command) → command_of (words_of words.now) ≡ Some c → Completes c
-        (scene (S.files store.old) (S.asked store.old) (S.heard store.old) (S.faults store.old) (I.left input.old) (I.faults input.old) (O.written out.old) (O.faults out.old) (E.written err.old) (E.faults err.old) steps.old)
-        (scene (S.files store.new) (S.asked store.new) (S.heard store.new) (S.faults store.new) (I.left input.new) (I.faults input.new) (O.written out.new) (O.faults out.new) (E.written err.new) (E.faults err.new) steps.new) result }
+        (scene (S.told store.old) (I.told input.old) (O.told out.old) (E.told err.old) steps.old)
+        (scene (S.told store.new) (I.told input.new) (O.told out.new) (E.told err.new) steps.new)
+        result }
 {
     match command_of(words) {
         Some(Invocation::Build(path, queries)) => run_build(alloc, path, queries, store, out, err),

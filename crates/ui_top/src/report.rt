@@ -21,9 +21,13 @@ use ui_store::{IoFault, Sink, put_all};
 // Three texts, one after another.
 #[tactic(auto, using(std::proofs::lemmas::Grind::common_steps, ui_store::specs::Told::growing, ui_store::specs::Sinks::fronts))]
 fn put_three<E: Sink>(err: &mut E, label: &[u8], name: &[u8], end: &[u8]) -> Result<(), IoFault>
-    ensures ok { OnOk result (E.written err.new ≡ more (E.written err.old) (label.now ++ name.now ++ end.now)) }
-    ensures err { OnErr result (Partly (E.written err.old) (E.written err.new) (label.now ++ name.now ++ end.now)) }
-    ensures cause { HasCause (E.faults err.old) (E.faults err.new) result }
+    ensures ok { OnOk result
+        ((E.told err.new).written ≡ more (E.told err.old).written
+        (label.now ++ name.now ++ end.now)) }
+    ensures err { OnErr result
+        (Partly (E.told err.old).written (E.told err.new).written
+        (label.now ++ name.now ++ end.now)) }
+    ensures cause { HasCause (E.told err.old).faults (E.told err.new).faults result }
 {
     put_all(err, label)?;
     put_all(err, name)?;
@@ -33,7 +37,7 @@ fn put_three<E: Sink>(err: &mut E, label: &[u8], name: &[u8], end: &[u8]) -> Res
 
 /// Says a text; a fault of `err` changes nothing else.
 pub fn say<E: Sink>(err: &mut E, label: &[u8], name: &[u8], end: &[u8])
-    ensures { Says (label.now ++ name.now ++ end.now) (E.faults err.old) (E.faults err.new) (E.written err.old) (E.written err.new) }
+    ensures { Says (label.now ++ name.now ++ end.now) (E.told err.old) (E.told err.new) }
 {
     let _ = put_three(err, label, name, end);
 }
@@ -50,9 +54,15 @@ fn hex_of(print: [u8; 8]) -> [u8; 16]
 // Two fingerprints, as digits.
 #[tactic(auto, using(std::proofs::lemmas::Grind::common_steps, ui_store::specs::Told::growing, ui_store::specs::Sinks::fronts))]
 fn put_fingerprints<E: Sink>(err: &mut E, kept: &[u8], computed: &[u8]) -> Result<(), IoFault>
-    ensures ok { OnOk result (E.written err.new ≡ more (E.written err.old) (codes ": Fingerprint kept " ++ kept.now ++ codes " computed " ++ computed.now ++ codes "\n")) }
-    ensures err { OnErr result (Partly (E.written err.old) (E.written err.new) (codes ": Fingerprint kept " ++ kept.now ++ codes " computed " ++ computed.now ++ codes "\n")) }
-    ensures cause { HasCause (E.faults err.old) (E.faults err.new) result }
+    ensures ok { OnOk result
+        ((E.told err.new).written ≡ more (E.told err.old).written
+        (codes ": Fingerprint kept " ++ kept.now ++ codes " computed " ++ computed.now
+        ++ codes "\n")) }
+    ensures err { OnErr result
+        (Partly (E.told err.old).written (E.told err.new).written
+        (codes ": Fingerprint kept " ++ kept.now ++ codes " computed " ++ computed.now
+        ++ codes "\n")) }
+    ensures cause { HasCause (E.told err.old).faults (E.told err.new).faults result }
 {
     put_three(err, b": Fingerprint kept ", kept, b" computed ")?;
     put_all(err, computed)?;
@@ -68,9 +78,13 @@ fn put_mismatch<E: Sink>(
     kept: [u8; 8],
     computed: [u8; 8],
 ) -> Result<(), IoFault>
-    ensures ok { OnOk result (E.written err.new ≡ more (E.written err.old) (codes "bad file: " ++ name.now ++ frame_end (FrameFault.Fingerprint kept computed))) }
-    ensures err { OnErr result (Partly (E.written err.old) (E.written err.new) (codes "bad file: " ++ name.now ++ frame_end (FrameFault.Fingerprint kept computed))) }
-    ensures cause { HasCause (E.faults err.old) (E.faults err.new) result }
+    ensures ok { OnOk result
+        ((E.told err.new).written ≡ more (E.told err.old).written
+        (codes "bad file: " ++ name.now ++ frame_end (FrameFault.Fingerprint kept computed))) }
+    ensures err { OnErr result
+        (Partly (E.told err.old).written (E.told err.new).written
+        (codes "bad file: " ++ name.now ++ frame_end (FrameFault.Fingerprint kept computed))) }
+    ensures cause { HasCause (E.told err.old).faults (E.told err.new).faults result }
 {
     let kept = hex_of(kept);
     let computed = hex_of(computed);
@@ -81,14 +95,16 @@ fn put_mismatch<E: Sink>(
 }
 
 fn say_mismatch<E: Sink>(err: &mut E, name: &[u8], kept: [u8; 8], computed: [u8; 8])
-    ensures { Says (codes "bad file: " ++ name.now ++ frame_end (FrameFault.Fingerprint kept computed)) (E.faults err.old) (E.faults err.new) (E.written err.old) (E.written err.new) }
+    ensures { Says (codes "bad file: " ++ name.now
+        ++ frame_end (FrameFault.Fingerprint kept computed)) (E.told err.old) (E.told err.new) }
 {
     let _ = put_mismatch(err, name, kept, computed);
 }
 
 // Says which test of a container a file fails.
 fn say_frame<E: Sink>(err: &mut E, name: &[u8], fault: FrameFault)
-    ensures { Says (codes "bad file: " ++ name.now ++ frame_end fault) (E.faults err.old) (E.faults err.new) (E.written err.old) (E.written err.new) }
+    ensures { Says (codes "bad file: " ++ name.now ++ frame_end fault)
+        (E.told err.old) (E.told err.new) }
 {
     match fault {
         FrameFault::Short => say(err, b"bad file: ", name, b": Short\n"),
@@ -104,9 +120,11 @@ fn say_frame<E: Sink>(err: &mut E, name: &[u8], fault: FrameFault)
 // A place.
 #[tactic(auto, using(std::proofs::lemmas::Grind::common_steps, ui_store::specs::Told::growing, ui_store::specs::Sinks::fronts))]
 fn put_place<E: Sink>(err: &mut E, pos: &Pos) -> Result<(), IoFault>
-    ensures ok { OnOk result (E.written err.new ≡ more (E.written err.old) (place pos.now)) }
-    ensures err { OnErr result (Partly (E.written err.old) (E.written err.new) (place pos.now)) }
-    ensures cause { HasCause (E.faults err.old) (E.faults err.new) result }
+    ensures ok { OnOk result
+        ((E.told err.new).written ≡ more (E.told err.old).written (place pos.now)) }
+    ensures err { OnErr result
+        (Partly (E.told err.old).written (E.told err.new).written (place pos.now)) }
+    ensures cause { HasCause (E.told err.old).faults (E.told err.new).faults result }
 {
     let mut line = Buffer::new();
     let mut column = Buffer::new();
@@ -122,9 +140,11 @@ fn put_place<E: Sink>(err: &mut E, pos: &Pos) -> Result<(), IoFault>
 
 // The name that a fault speaks of, to the line's end.
 fn put_name<E: Sink>(err: &mut E, name: &[u8]) -> Result<(), IoFault>
-    ensures ok { OnOk result (E.written err.new ≡ more (E.written err.old) (name_end name.now)) }
-    ensures err { OnErr result (Partly (E.written err.old) (E.written err.new) (name_end name.now)) }
-    ensures cause { HasCause (E.faults err.old) (E.faults err.new) result }
+    ensures ok { OnOk result
+        ((E.told err.new).written ≡ more (E.told err.old).written (name_end name.now)) }
+    ensures err { OnErr result
+        (Partly (E.told err.old).written (E.told err.new).written (name_end name.now)) }
+    ensures cause { HasCause (E.told err.old).faults (E.told err.new).faults result }
 {
     match name {
         [] => {
@@ -141,9 +161,13 @@ fn put_name<E: Sink>(err: &mut E, name: &[u8]) -> Result<(), IoFault>
 // A place, a word, and the name that it speaks of.
 #[tactic(auto, using(std::proofs::lemmas::Grind::common_steps, ui_store::specs::Told::growing, ui_store::specs::Sinks::fronts))]
 fn put_fault<E: Sink>(err: &mut E, pos: &Pos, word: &[u8], name: &[u8]) -> Result<(), IoFault>
-    ensures ok { OnOk result (E.written err.new ≡ more (E.written err.old) (line_at pos.now word.now name.now)) }
-    ensures err { OnErr result (Partly (E.written err.old) (E.written err.new) (line_at pos.now word.now name.now)) }
-    ensures cause { HasCause (E.faults err.old) (E.faults err.new) result }
+    ensures ok { OnOk result
+        ((E.told err.new).written ≡ more (E.told err.old).written
+        (line_at pos.now word.now name.now)) }
+    ensures err { OnErr result
+        (Partly (E.told err.old).written (E.told err.new).written
+        (line_at pos.now word.now name.now)) }
+    ensures cause { HasCause (E.told err.old).faults (E.told err.new).faults result }
 {
     put_place(err, pos)?;
     put_all(err, word)?;
@@ -153,7 +177,7 @@ fn put_fault<E: Sink>(err: &mut E, pos: &Pos, word: &[u8], name: &[u8]) -> Resul
 
 // Says the fault of a package.
 fn say_fault<E: Sink>(err: &mut E, pos: &Pos, word: &[u8], name: &[u8])
-    ensures { Says (line_at pos.now word.now name.now) (E.faults err.old) (E.faults err.new) (E.written err.old) (E.written err.new) }
+    ensures { Says (line_at pos.now word.now name.now) (E.told err.old) (E.told err.new) }
 {
     let _ = put_fault(err, pos, word, name);
 }
@@ -166,9 +190,13 @@ fn put_stale<E: Sink>(
     first: [u8; 8],
     second: [u8; 8],
 ) -> Result<(), IoFault>
-    ensures ok { OnOk result (E.written err.new ≡ more (E.written err.old) (stale_line path.now first second)) }
-    ensures err { OnErr result (Partly (E.written err.old) (E.written err.new) (stale_line path.now first second)) }
-    ensures cause { HasCause (E.faults err.old) (E.faults err.new) result }
+    ensures ok { OnOk result
+        ((E.told err.new).written ≡ more (E.told err.old).written
+        (stale_line path.now first second)) }
+    ensures err { OnErr result
+        (Partly (E.told err.old).written (E.told err.new).written
+        (stale_line path.now first second)) }
+    ensures cause { HasCause (E.told err.old).faults (E.told err.new).faults result }
 {
     let first = hex_of(first);
     let second = hex_of(second);
@@ -180,7 +208,7 @@ fn put_stale<E: Sink>(
 
 // Says that two fingerprints are named for a path.
 fn say_stale<E: Sink>(err: &mut E, path: &[u8], first: [u8; 8], second: [u8; 8])
-    ensures { Says (stale_line path.now first second) (E.faults err.old) (E.faults err.new) (E.written err.old) (E.written err.new) }
+    ensures { Says (stale_line path.now first second) (E.told err.old) (E.told err.new) }
 {
     let _ = put_stale(err, path, first, second);
 }
@@ -188,7 +216,7 @@ fn say_stale<E: Sink>(err: &mut E, path: &[u8], first: [u8; 8], second: [u8; 8])
 // Says a refusal.
 fn report_refusal<E: Sink>(refusal: &Refusal, err: &mut E) -> Status
     ensures status { result ≡ refused_as (refusal_of refusal.now) }
-    ensures said { Says (refusal_line (refusal_of refusal.now)) (E.faults err.old) (E.faults err.new) (E.written err.old) (E.written err.new) }
+    ensures said { Says (refusal_line (refusal_of refusal.now)) (E.told err.old) (E.told err.new) }
 {
     match refusal {
         Refusal::NoFile(name) => {
@@ -242,7 +270,7 @@ fn report_refusal<E: Sink>(refusal: &Refusal, err: &mut E) -> Status
 /// Says why a command was stopped before its answers.
 pub fn report<E: Sink>(stop: &Stop, err: &mut E) -> Status
     ensures status { result ≡ status_of stop.now }
-    ensures said { Says (stop_line stop.now) (E.faults err.old) (E.faults err.new) (E.written err.old) (E.written err.new) }
+    ensures said { Says (stop_line stop.now) (E.told err.old) (E.told err.new) }
 {
     match stop {
         Stop::Refused(refusal) => report_refusal(refusal, err),
@@ -264,7 +292,7 @@ pub fn report<E: Sink>(stop: &Stop, err: &mut E) -> Status
 /// Says why the answers were not written to their end, and how they ended.
 pub fn report_answers<E: Sink>(answered: Result<bool, Unanswered>, err: &mut E) -> Status
     ensures status { result ≡ answers_status answered }
-    ensures said { Says (answers_line answered) (E.faults err.old) (E.faults err.new) (E.written err.old) (E.written err.new) }
+    ensures said { Says (answers_line answered) (E.told err.old) (E.told err.new) }
 {
     match answered {
         Ok(true) => Status::Ok,

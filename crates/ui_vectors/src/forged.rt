@@ -20,13 +20,7 @@ struct Forged {
 
 #[tactic(auto, unfolding(ui_store::specs::Told::more))]
 impl Store for Forged {
-    ghost files = { λ s. None };
-
-    ghost asked = { λ s. None };
-
-    ghost heard = { λ s. None };
-
-    ghost faults = { λ s. (memory_of s.inner).faults };
+    ghost told = { λ s. record { files = None; asked = None; heard = None; faults = (memory_of s.inner).faults } };
 
     fn list(&mut self, alloc: Global, dir: &str) -> Result<Vec<String>, StoreFault> {
         match self.inner.list(alloc, dir) {

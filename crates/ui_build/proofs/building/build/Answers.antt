@@ -7,9 +7,9 @@ use Rattle.ui_order.specs.Tables.{texts}
 use Rattle.ui_build.specs.Plan.{asking, ◌>>=◌}
 use Rattle.ui_build.specs.Package.{linked_file}
 use Rattle.ui_build.specs.Build.{build, build_order, compile_all, export_or}
-use Rattle.ui_build.specs.Heard.{Builds, Hears}
+use Rattle.ui_build.specs.Heard.{Builds, HearsIn}
 use Rattle.ui_build.specs.Views.{loaded_of}
-use Rattle.ui_build.specs.Stops.{state, DoesTold}
+use Rattle.ui_build.specs.Stops.{state, DoesSeen}
 use Rattle.ui_build.proofs.Hearing.{heard_stop, heard_then_stop, heard_both_stop, heard_build}
 use Rattle.ui_build.proofs.Steps.{told_stop}
 use Rattle.ui_build.proofs.Linking.{Containers}
@@ -22,14 +22,14 @@ returns-in_err-order-clause-does g c =
     let p = err_from_is_err_and c.from_residual.result c.from_residual.ensures.1 in
     let path = c.args.path.now in
     rw (p.1, p.2)
-    (told_stop texts (λ (e : Export). e) (λ told. build_order told path) (λ told order. compile_all told empty order >>= λ packages. asking (ask.Read, linked_file path) (export_or path (get packages path))) _ _ (state (g.S.Store.files c.build_order.new.store) (g.S.Store.asked c.build_order.new.store)) c.in_err-order.field-0.0 c.in_err-order.ensures.does)
+    (told_stop texts (λ (e : Export). e) (λ told. build_order told path) (λ told order. compile_all told empty order >>= λ packages. asking (ask.Read, linked_file path) (export_or path (get packages path))) _ _ (state (g.S.Store.told c.build_order.new.store).files (g.S.Store.told c.build_order.new.store).asked) c.in_err-order.field-0.0 c.in_err-order.ensures.does)
 
 pub returns-in_err-compile_all-clause-does : goal.returns-in_err-compile_all-clause-does
 returns-in_err-compile_all-clause-does g c =
     let p = err_from_is_err_and c.from_residual-in_err-compile_all.result c.from_residual-in_err-compile_all.ensures.1 in
     let laws : Orders = record { begins = c.discovery_keeps.ensures.begins; keeps = c.discovery_keeps.ensures.keeps; closes = c.discovery_keeps.ensures.closes; imports_first = c.order_is_whole.ensures.imports_first; all = c.order_is_whole.ensures.all; acyclic = c.order_is_whole.ensures.acyclic } in
     rw (p.1, p.2)
-    (build_compile_stop laws c.args.path.now c.in_ok-order.order _ _ _ (g.S.Store.asked c.build_order.new.store) (state (g.S.Store.files c.compile_all.new.store) (g.S.Store.asked c.compile_all.new.store)) c.in_err-compile_all.field-0.0 c.in_ok-order.ensures.files c.in_ok-order.ensures.does (rw c.deref.ensures.value at c.in_err-compile_all.ensures.does))
+    (build_compile_stop laws c.args.path.now c.in_ok-order.order _ _ _ (g.S.Store.told c.build_order.new.store).asked (state (g.S.Store.told c.compile_all.new.store).files (g.S.Store.told c.compile_all.new.store).asked) c.in_err-compile_all.field-0.0 c.in_ok-order.ensures.files c.in_ok-order.ensures.does (rw c.deref.ensures.value at c.in_err-compile_all.ensures.does))
 
 pub returns-in_err-loaded-clause-does : goal.returns-in_err-loaded-clause-does
 returns-in_err-loaded-clause-does g c =
@@ -37,16 +37,16 @@ returns-in_err-loaded-clause-does g c =
     let laws : Orders = record { begins = c.discovery_keeps.ensures.begins; keeps = c.discovery_keeps.ensures.keeps; closes = c.discovery_keeps.ensures.closes; imports_first = c.order_is_whole.ensures.imports_first; all = c.order_is_whole.ensures.all; acyclic = c.order_is_whole.ensures.acyclic } in
     let containers : Containers = record { passes = c.one_container.ensures.passes; found = c.one_container.ensures.found; one = c.one_container.ensures.one } in
     rw (p.1, p.2)
-    (build_load_stop laws containers c.reads_back.ensures c.args.path.now c.in_ok-order.order _ _ _ (g.S.Store.asked c.build_order.new.store) (state (g.S.Store.files c.compile_all.new.store) (g.S.Store.asked c.compile_all.new.store)) (state (g.S.Store.files c.load.new.store) (g.S.Store.asked c.load.new.store)) c.in_err-loaded.field-0.0 c.in_ok-order.ensures.files c.in_ok-order.ensures.does (rw c.deref.ensures.value at c.in_ok-compile_all.ensures.does) c.in_err-loaded.ensures.does)
+    (build_load_stop laws containers c.reads_back.ensures c.args.path.now c.in_ok-order.order _ _ _ (g.S.Store.told c.build_order.new.store).asked (state (g.S.Store.told c.compile_all.new.store).files (g.S.Store.told c.compile_all.new.store).asked) (state (g.S.Store.told c.load.new.store).files (g.S.Store.told c.load.new.store).asked) c.in_err-loaded.field-0.0 c.in_ok-order.ensures.files c.in_ok-order.ensures.does (rw c.deref.ensures.value at c.in_ok-compile_all.ensures.does) c.in_err-loaded.ensures.does)
 
 pub returns-clause-does : goal.returns-clause-does
 returns-clause-does g c =
     let laws : Orders = record { begins = c.discovery_keeps.ensures.begins; keeps = c.discovery_keeps.ensures.keeps; closes = c.discovery_keeps.ensures.closes; imports_first = c.order_is_whole.ensures.imports_first; all = c.order_is_whole.ensures.all; acyclic = c.order_is_whole.ensures.acyclic } in
     let containers : Containers = record { passes = c.one_container.ensures.passes; found = c.one_container.ensures.found; one = c.one_container.ensures.one } in
     let path = c.args.path.now in
-    let P : Export → Type 0 = λ x. DoesTold (λ (e : Export). e) (λ told. build told path) (state (g.S.Store.files c.args.store.now) (g.S.Store.asked c.args.store.now)) (state (g.S.Store.files c.load.new.store) (g.S.Store.asked c.load.new.store)) (Ok x) in
+    let P : Export → Type 0 = λ x. DoesSeen (λ (e : Export). e) (λ told. build told path) (state (g.S.Store.told c.args.store.now).files (g.S.Store.told c.args.store.now).asked) (state (g.S.Store.told c.load.new.store).files (g.S.Store.told c.load.new.store).asked) (Ok x) in
     subst P (sym c.package_of-package.ensures)
-    (build_ok laws containers c.reads_back.ensures c.args.path.now c.in_ok-order.order c.in_ok-loaded.loaded _ _ _ (g.S.Store.asked c.build_order.new.store) (state (g.S.Store.files c.compile_all.new.store) (g.S.Store.asked c.compile_all.new.store)) (state (g.S.Store.files c.load.new.store) (g.S.Store.asked c.load.new.store)) c.in_ok-order.ensures.files c.in_ok-order.ensures.does (rw c.deref.ensures.value at c.in_ok-compile_all.ensures.does) c.in_ok-loaded.ensures.does)
+    (build_ok laws containers c.reads_back.ensures c.args.path.now c.in_ok-order.order c.in_ok-loaded.loaded _ _ _ (g.S.Store.told c.build_order.new.store).asked (state (g.S.Store.told c.compile_all.new.store).files (g.S.Store.told c.compile_all.new.store).asked) (state (g.S.Store.told c.load.new.store).files (g.S.Store.told c.load.new.store).asked) c.in_ok-order.ensures.files c.in_ok-order.ensures.does (rw c.deref.ensures.value at c.in_ok-compile_all.ensures.does) c.in_ok-loaded.ensures.does)
 
 pub returns-in_err-order-clause-heard : goal.returns-in_err-order-clause-heard
 returns-in_err-order-clause-heard g c =
@@ -65,6 +65,6 @@ returns-in_err-loaded-clause-heard g c =
 
 pub returns-clause-heard : goal.returns-clause-heard
 returns-clause-heard g c =
-    let P : Export → Type 0 = λ x. Hears (Builds c.args.path.now) (g.S.Store.heard c.args.store.now) (g.S.Store.heard c.load.new.store) (Ok x) in
+    let P : Export → Type 0 = λ x. HearsIn (Builds c.args.path.now) (g.S.Store.told c.args.store.now).heard (g.S.Store.told c.load.new.store).heard (Ok x) in
     subst P (sym c.package_of-package.ensures)
     (heard_build _ loaded_of c.args.path.now (texts c.in_ok-order.order) c.in_ok-order.order tt c.in_ok-loaded.loaded _ _ _ _ c.in_ok-order.ensures.heard (rw c.deref.ensures.value at c.in_ok-compile_all.ensures.heard) c.in_ok-loaded.ensures.heard)

@@ -12,9 +12,9 @@ use Rattle.ui_build.proofs.compiling.compile_all.Goals as goal
 pub loop-path-init : goal.loop-path-init
 loop-path-init g c = record {
   on = λ files at sorted few.
-      let P : Option Files → Type 0 = λ f. CompilesOn files c.args.order.now (state f (g.S.Store.asked c.args.store.now)) 0 (state f (g.S.Store.asked c.args.store.now)) in
-      subst P (sym at) (compiles_first files c.args.order.now (g.S.Store.asked c.args.store.now) sorted);
-  heard = heard.compiled_first c.args.order.now (g.S.Store.heard c.args.store.now);
+      let P : Option Files → Type 0 = λ f. CompilesOn files c.args.order.now (state f (g.S.Store.told c.args.store.now).asked) 0 (state f (g.S.Store.told c.args.store.now).asked) in
+      subst P (sym at) (compiles_first files c.args.order.now (g.S.Store.told c.args.store.now).asked sorted);
+  heard = heard.compiled_first c.args.order.now (g.S.Store.told c.args.store.now).heard;
   count = omega arith;
 }
 
@@ -23,7 +23,7 @@ loop-path-preserved g c =
     let here = c.as_str.ensures.value ∙ ap string_bytes c.path-item.is in
     record {
       on = λ files at sorted few.
-          compiled_next files c.args.order.now (state (g.S.Store.files c.args.store.now) (g.S.Store.asked c.args.store.now)) (state (g.S.Store.files c.loop-path.store) (g.S.Store.asked c.loop-path.store)) (state (g.S.Store.files c.compile.new.store) (g.S.Store.asked c.compile.new.store)) c.loop-path.path-index c.path-item.result c.as_str.result.now c.in_ok-compile.field-0
+          compiled_next files c.args.order.now (state (g.S.Store.told c.args.store.now).files (g.S.Store.told c.args.store.now).asked) (state (g.S.Store.told c.loop-path.store).files (g.S.Store.told c.loop-path.store).asked) (state (g.S.Store.told c.compile.new.store).files (g.S.Store.told c.compile.new.store).asked) c.loop-path.path-index c.path-item.result c.as_str.result.now c.in_ok-compile.field-0
           (omega arith) few here c.in_ok-compile.ensures.does c.in_ok-compile.ensures.stands (c.loop-path.invariant.on files at sorted few);
       heard = heard.compiled_next c.args.order.now c.loop-path.path-index c.path-item.result c.in_ok-compile.field-0 _ _ _ (omega arith) c.loop-path.invariant.heard (rw here at c.in_ok-compile.ensures.heard);
       count = omega (arith, c.in_ok-compile.ensures.cause.later);
@@ -35,13 +35,13 @@ returns-in_err-compile-clause-does g c =
     let here = c.as_str.ensures.value ∙ ap string_bytes c.path-item.is in
     λ files at sorted few.
     rw (p.1, p.2)
-    (compiled_stop files c.args.order.now (state (g.S.Store.files c.args.store.now) (g.S.Store.asked c.args.store.now)) (state (g.S.Store.files c.loop-path.store) (g.S.Store.asked c.loop-path.store)) (state (g.S.Store.files c.compile.new.store) (g.S.Store.asked c.compile.new.store)) c.loop-path.path-index c.path-item.result c.as_str.result.now c.in_err-compile.field-0.0
+    (compiled_stop files c.args.order.now (state (g.S.Store.told c.args.store.now).files (g.S.Store.told c.args.store.now).asked) (state (g.S.Store.told c.loop-path.store).files (g.S.Store.told c.loop-path.store).asked) (state (g.S.Store.told c.compile.new.store).files (g.S.Store.told c.compile.new.store).asked) c.loop-path.path-index c.path-item.result c.as_str.result.now c.in_err-compile.field-0.0
     (omega arith) few here c.in_err-compile.ensures.does (c.loop-path.invariant.on files at sorted few))
 
 pub returns-clause-does : goal.returns-clause-does
 returns-clause-does g c =
     λ files at sorted few.
-    compiles_last files c.args.order.now (state (g.S.Store.files c.args.store.now) (g.S.Store.asked c.args.store.now)) (state (g.S.Store.files c.loop-path.store) (g.S.Store.asked c.loop-path.store)) c.loop-path.path-index (nothing_left c.args.order.now c.loop-path.path-index (omega arith)) (c.loop-path.invariant.on files at sorted few)
+    compiles_last files c.args.order.now (state (g.S.Store.told c.args.store.now).files (g.S.Store.told c.args.store.now).asked) (state (g.S.Store.told c.loop-path.store).files (g.S.Store.told c.loop-path.store).asked) c.loop-path.path-index (nothing_left c.args.order.now c.loop-path.path-index (omega arith)) (c.loop-path.invariant.on files at sorted few)
 
 pub returns-in_err-compile-clause-heard : goal.returns-in_err-compile-clause-heard
 returns-in_err-compile-clause-heard g c =

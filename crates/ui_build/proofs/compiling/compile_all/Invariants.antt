@@ -9,7 +9,7 @@ use Rattle.ui_build.proofs.compiling.compile_all.Given as goal
 
 abbrev pub invariant-loop-path : goal.invariant-loop-path
 invariant-loop-path g l = record {
-  on : (files : Files) → g.S.Store.files l.initial.store ≡ Some files → IsInOrder files [] (map string_bytes l.order) → length l.order ≤ package_limit → CompilesOn files l.order (state (g.S.Store.files l.initial.store) (g.S.Store.asked l.initial.store)) l.path-index (state (g.S.Store.files l.store) (g.S.Store.asked l.store));
-  heard : CompiledSoFar l.order l.path-index (g.S.Store.heard l.initial.store) (g.S.Store.heard l.store);
-  count : g.S.Store.faults l.initial.store ≤ g.S.Store.faults l.store;
+  on : (files : Files) → (g.S.Store.told l.initial.store).files ≡ Some files → IsInOrder files [] (map string_bytes l.order) → length l.order ≤ package_limit → CompilesOn files l.order (state (g.S.Store.told l.initial.store).files (g.S.Store.told l.initial.store).asked) l.path-index (state (g.S.Store.told l.store).files (g.S.Store.told l.store).asked);
+  heard : CompiledSoFar l.order l.path-index (g.S.Store.told l.initial.store).heard (g.S.Store.told l.store).heard;
+  count : (g.S.Store.told l.initial.store).faults ≤ (g.S.Store.told l.store).faults;
 }

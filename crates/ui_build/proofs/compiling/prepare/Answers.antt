@@ -22,7 +22,7 @@ returns-in_err-form-clause-does g c =
     let p = err_from_is_err_and c.from_residual.result c.from_residual.ensures.1 in
     let path = c.args.path.now in
     rw (p.1, p.2)
-    (told_stop (λ (f : SourceForm). f) (λ (l : Linked). l) (λ told. read_form told path) (λ told form. load_all told ([], []) (imported form) >>= λ imports. settled (judgement path form imports)) _ _ (state (g.S.Store.files c.read_form.new.store) (g.S.Store.asked c.read_form.new.store)) c.in_err-form.field-0.0 c.in_err-form.ensures.does)
+    (told_stop (λ (f : SourceForm). f) (λ (l : Linked). l) (λ told. read_form told path) (λ told form. load_all told ([], []) (imported form) >>= λ imports. settled (judgement path form imports)) _ _ (state (g.S.Store.told c.read_form.new.store).files (g.S.Store.told c.read_form.new.store).asked) c.in_err-form.field-0.0 c.in_err-form.ensures.does)
 
 pub returns-in_err-imports-clause-does : goal.returns-in_err-imports-clause-does
 returns-in_err-imports-clause-does g c =
@@ -30,8 +30,8 @@ returns-in_err-imports-clause-does g c =
     let path = c.args.path.now in
     let form = c.in_ok-form.form in
     rw (p.1, p.2)
-    (told_then (λ (f : SourceForm). f) (λ (l : Linked). l) (λ told. read_form told path) (λ told f. load_all told ([], []) (imported f) >>= λ imports. settled (judgement path f imports)) _ _ _ _ (state (g.S.Store.files c.load_all.new.store) (g.S.Store.asked c.load_all.new.store)) form (Err c.in_err-imports.field-0.0) c.in_ok-form.ensures.files c.in_ok-form.ensures.does
-    (told_stop imports_of (λ (l : Linked). l) (λ told. load_all told ([], []) (imported form)) (λ told imports. settled (judgement path form imports)) _ _ (state (g.S.Store.files c.load_all.new.store) (g.S.Store.asked c.load_all.new.store)) c.in_err-imports.field-0.0 (rw c.imports.ensures.paths at c.in_err-imports.ensures.does)))
+    (told_then (λ (f : SourceForm). f) (λ (l : Linked). l) (λ told. read_form told path) (λ told f. load_all told ([], []) (imported f) >>= λ imports. settled (judgement path f imports)) _ _ _ _ (state (g.S.Store.told c.load_all.new.store).files (g.S.Store.told c.load_all.new.store).asked) form (Err c.in_err-imports.field-0.0) c.in_ok-form.ensures.files c.in_ok-form.ensures.does
+    (told_stop imports_of (λ (l : Linked). l) (λ told. load_all told ([], []) (imported form)) (λ told imports. settled (judgement path form imports)) _ _ (state (g.S.Store.told c.load_all.new.store).files (g.S.Store.told c.load_all.new.store).asked) c.in_err-imports.field-0.0 (rw c.imports.ensures.paths at c.in_err-imports.ensures.does)))
 
 pub returns-in_err-linked-clause-does : goal.returns-in_err-linked-clause-does
 returns-in_err-linked-clause-does g c =
@@ -39,16 +39,16 @@ returns-in_err-linked-clause-does g c =
     let path = c.args.path.now in
     let form = c.in_ok-form.form in
     rw (p.1, p.2)
-    (told_then (λ (f : SourceForm). f) (λ (l : Linked). l) (λ told. read_form told path) (λ told f. load_all told ([], []) (imported f) >>= λ imports. settled (judgement path f imports)) _ _ _ _ (state (g.S.Store.files c.load_all.new.store) (g.S.Store.asked c.load_all.new.store)) form (Err c.in_err-linked.field-0.0) c.in_ok-form.ensures.files c.in_ok-form.ensures.does
-    (told_settled imports_of (λ (l : Linked). l) (λ told. load_all told ([], []) (imported form)) (λ imports. judgement path form imports) (g.S.Store.files c.read_form.new.store) (g.S.Store.files c.load_all.new.store) (g.S.Store.asked c.read_form.new.store) (g.S.Store.asked c.load_all.new.store) c.in_ok-imports.imports (Err c.in_err-linked.field-0.0) c.in_ok-imports.ensures.files
+    (told_then (λ (f : SourceForm). f) (λ (l : Linked). l) (λ told. read_form told path) (λ told f. load_all told ([], []) (imported f) >>= λ imports. settled (judgement path f imports)) _ _ _ _ (state (g.S.Store.told c.load_all.new.store).files (g.S.Store.told c.load_all.new.store).asked) form (Err c.in_err-linked.field-0.0) c.in_ok-form.ensures.files c.in_ok-form.ensures.does
+    (told_settled imports_of (λ (l : Linked). l) (λ told. load_all told ([], []) (imported form)) (λ imports. judgement path form imports) (g.S.Store.told c.read_form.new.store).files (g.S.Store.told c.load_all.new.store).files (g.S.Store.told c.read_form.new.store).asked (g.S.Store.told c.load_all.new.store).asked c.in_ok-imports.imports (Err c.in_err-linked.field-0.0) c.in_ok-imports.ensures.files
     (rw c.imports.ensures.paths at c.in_ok-imports.ensures.does) c.in_err-linked.ensures.settled))
 
 pub returns-clause-does : goal.returns-clause-does
 returns-clause-does g c =
     let path = c.args.path.now in
     let form = c.in_ok-form.form in
-    told_then (λ (f : SourceForm). f) (λ (l : Linked). l) (λ told. read_form told path) (λ told f. load_all told ([], []) (imported f) >>= λ imports. settled (judgement path f imports)) _ _ _ _ (state (g.S.Store.files c.load_all.new.store) (g.S.Store.asked c.load_all.new.store)) form (Ok c.in_ok-linked.linked) c.in_ok-form.ensures.files c.in_ok-form.ensures.does
-    (told_settled imports_of (λ (l : Linked). l) (λ told. load_all told ([], []) (imported form)) (λ imports. judgement path form imports) (g.S.Store.files c.read_form.new.store) (g.S.Store.files c.load_all.new.store) (g.S.Store.asked c.read_form.new.store) (g.S.Store.asked c.load_all.new.store) c.in_ok-imports.imports (Ok c.in_ok-linked.linked) c.in_ok-imports.ensures.files
+    told_then (λ (f : SourceForm). f) (λ (l : Linked). l) (λ told. read_form told path) (λ told f. load_all told ([], []) (imported f) >>= λ imports. settled (judgement path f imports)) _ _ _ _ (state (g.S.Store.told c.load_all.new.store).files (g.S.Store.told c.load_all.new.store).asked) form (Ok c.in_ok-linked.linked) c.in_ok-form.ensures.files c.in_ok-form.ensures.does
+    (told_settled imports_of (λ (l : Linked). l) (λ told. load_all told ([], []) (imported form)) (λ imports. judgement path form imports) (g.S.Store.told c.read_form.new.store).files (g.S.Store.told c.load_all.new.store).files (g.S.Store.told c.read_form.new.store).asked (g.S.Store.told c.load_all.new.store).asked c.in_ok-imports.imports (Ok c.in_ok-linked.linked) c.in_ok-imports.ensures.files
     (rw c.imports.ensures.paths at c.in_ok-imports.ensures.does) c.in_ok-linked.ensures.settled)
 
 pub returns-in_err-form-clause-heard : goal.returns-in_err-form-clause-heard

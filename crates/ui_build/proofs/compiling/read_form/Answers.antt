@@ -14,18 +14,18 @@ pub returns-in_err-sources-clause-does : goal.returns-in_err-sources-clause-does
 returns-in_err-sources-clause-does g c =
     let p = err_from_is_err_and c.from_residual.result c.from_residual.ensures.1 in
     rw (p.1, p.2)
-    (told_stop sources_of (λ (f : SourceForm). f) (λ told. find told (folder c.args.path.now)) (λ told sources. settled (form_or c.args.path.now sources)) _ _ (state (g.S.Store.files c.find.new.store) (g.S.Store.asked c.find.new.store)) c.in_err-sources.field-0.0 c.in_err-sources.ensures.does)
+    (told_stop sources_of (λ (f : SourceForm). f) (λ told. find told (folder c.args.path.now)) (λ told sources. settled (form_or c.args.path.now sources)) _ _ (state (g.S.Store.told c.find.new.store).files (g.S.Store.told c.find.new.store).asked) c.in_err-sources.field-0.0 c.in_err-sources.ensures.does)
 
 pub returns-in_err-form-clause-does : goal.returns-in_err-form-clause-does
 returns-in_err-form-clause-does g c =
     let p = err_from_is_err_and c.from_residual-in_err-form.result c.from_residual-in_err-form.ensures.1 in
     rw (p.1, p.2)
-    (told_settled sources_of (λ (f : SourceForm). f) (λ told. find told (folder c.args.path.now)) (λ sources. form_or c.args.path.now sources) (g.S.Store.files c.args.store.now) (g.S.Store.files c.find.new.store) (g.S.Store.asked c.args.store.now) (g.S.Store.asked c.find.new.store) c.in_ok-sources.sources (Err c.in_err-form.field-0.0) c.in_ok-sources.ensures.files
+    (told_settled sources_of (λ (f : SourceForm). f) (λ told. find told (folder c.args.path.now)) (λ sources. form_or c.args.path.now sources) (g.S.Store.told c.args.store.now).files (g.S.Store.told c.find.new.store).files (g.S.Store.told c.args.store.now).asked (g.S.Store.told c.find.new.store).asked c.in_ok-sources.sources (Err c.in_err-form.field-0.0) c.in_ok-sources.ensures.files
     c.in_ok-sources.ensures.does (rw c.deref.ensures.value at c.in_err-form.ensures.settled))
 
 pub returns-clause-does : goal.returns-clause-does
 returns-clause-does g c =
-    told_settled sources_of (λ (f : SourceForm). f) (λ told. find told (folder c.args.path.now)) (λ sources. form_or c.args.path.now sources) (g.S.Store.files c.args.store.now) (g.S.Store.files c.find.new.store) (g.S.Store.asked c.args.store.now) (g.S.Store.asked c.find.new.store) c.in_ok-sources.sources (Ok c.in_ok-form.form) c.in_ok-sources.ensures.files
+    told_settled sources_of (λ (f : SourceForm). f) (λ told. find told (folder c.args.path.now)) (λ sources. form_or c.args.path.now sources) (g.S.Store.told c.args.store.now).files (g.S.Store.told c.find.new.store).files (g.S.Store.told c.args.store.now).asked (g.S.Store.told c.find.new.store).asked c.in_ok-sources.sources (Ok c.in_ok-form.form) c.in_ok-sources.ensures.files
     c.in_ok-sources.ensures.does (rw c.deref.ensures.value at c.in_ok-form.ensures.settled)
 
 pub returns-in_err-sources-clause-heard : goal.returns-in_err-sources-clause-heard

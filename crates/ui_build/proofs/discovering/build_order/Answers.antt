@@ -20,17 +20,17 @@ pub returns-in_err-discovery-clause-does : goal.returns-in_err-discovery-clause-
 returns-in_err-discovery-clause-does g c =
     let p = err_from_is_err_and c.from_residual.result c.from_residual.ensures.1 in
     rw (p.1, p.2)
-    (told_stop (λ (d : Found). d) texts (λ told. discover (suc package_limit) told (begun c.args.root.now)) (λ told found. settled (ordered found.read)) _ _ (state (g.S.Store.files c.discover.new.store) (g.S.Store.asked c.discover.new.store)) c.in_err-discovery.field-0.0 c.in_err-discovery.ensures.does)
+    (told_stop (λ (d : Found). d) texts (λ told. discover (suc package_limit) told (begun c.args.root.now)) (λ told found. settled (ordered found.read)) _ _ (state (g.S.Store.told c.discover.new.store).files (g.S.Store.told c.discover.new.store).asked) c.in_err-discovery.field-0.0 c.in_err-discovery.ensures.does)
 
 pub returns-in_err-order-clause-does : goal.returns-in_err-order-clause-does
 returns-in_err-order-clause-does g c =
     let p = err_from_is_err_and c.from_residual-in_err-order.result c.from_residual-in_err-order.ensures.1 in
     rw (p.1, p.2)
-    (told_settled (λ (d : Found). d) texts (λ told. discover (suc package_limit) told (begun c.args.root.now)) (λ found. ordered found.read) (g.S.Store.files c.args.store.now) (g.S.Store.files c.discover.new.store) (g.S.Store.asked c.args.store.now) (g.S.Store.asked c.discover.new.store) c.in_ok-discovery.discovery (Err c.in_err-order.field-0.0) c.in_ok-discovery.ensures.files c.in_ok-discovery.ensures.does c.in_err-order.ensures)
+    (told_settled (λ (d : Found). d) texts (λ told. discover (suc package_limit) told (begun c.args.root.now)) (λ found. ordered found.read) (g.S.Store.told c.args.store.now).files (g.S.Store.told c.discover.new.store).files (g.S.Store.told c.args.store.now).asked (g.S.Store.told c.discover.new.store).asked c.in_ok-discovery.discovery (Err c.in_err-order.field-0.0) c.in_ok-discovery.ensures.files c.in_ok-discovery.ensures.does c.in_err-order.ensures)
 
 pub returns-clause-does : goal.returns-clause-does
 returns-clause-does g c =
-    told_settled (λ (d : Found). d) texts (λ told. discover (suc package_limit) told (begun c.args.root.now)) (λ found. ordered found.read) (g.S.Store.files c.args.store.now) (g.S.Store.files c.discover.new.store) (g.S.Store.asked c.args.store.now) (g.S.Store.asked c.discover.new.store) c.in_ok-discovery.discovery (Ok c.in_ok-order.order) c.in_ok-discovery.ensures.files c.in_ok-discovery.ensures.does c.in_ok-order.ensures
+    told_settled (λ (d : Found). d) texts (λ told. discover (suc package_limit) told (begun c.args.root.now)) (λ found. ordered found.read) (g.S.Store.told c.args.store.now).files (g.S.Store.told c.discover.new.store).files (g.S.Store.told c.args.store.now).asked (g.S.Store.told c.discover.new.store).asked c.in_ok-discovery.discovery (Ok c.in_ok-order.order) c.in_ok-discovery.ensures.files c.in_ok-discovery.ensures.does c.in_ok-order.ensures
 
 pub returns-in_err-discovery-clause-heard : goal.returns-in_err-discovery-clause-heard
 returns-in_err-discovery-clause-heard g c =

@@ -21,23 +21,23 @@ pub loop-turn-init : goal.loop-turn-init
 loop-turn-init g c =
     let P : Found → Type 0 = IsFound c.args.root.now in
     record {
-      rest = finds_first c.args.root.now (state (g.S.Store.files c.args.store.now) (g.S.Store.asked c.args.store.now)) c.in_ok-discovery.discovery c.in_ok-discovery.ensures;
+      rest = finds_first c.args.root.now (state (g.S.Store.told c.args.store.now).files (g.S.Store.told c.args.store.now).asked) c.in_ok-discovery.discovery c.in_ok-discovery.ensures;
       same = refl;
       count = omega arith;
-      heard = record { heard = []; told = sym (more_none (g.S.Store.heard c.args.store.now)); ends = tt };
+      heard = record { heard = []; told = sym (more_none (g.S.Store.told c.args.store.now).heard); ends = tt };
       found = subst P (sym c.in_ok-discovery.ensures) (c.discovery_keeps.ensures.begins c.args.root.now);
     }
 
 pub loop-turn-preserved : goal.loop-turn-preserved
 loop-turn-preserved g c =
     let i = c.loop-turn._turn in
-    let initial = state (g.S.Store.files c.args.store.now) (g.S.Store.asked c.args.store.now) in
-    let now = state (g.S.Store.files c.loop-turn.store) (g.S.Store.asked c.loop-turn.store) in
-    let mid = state (g.S.Store.files c.discover_one.new.store) (g.S.Store.asked c.discover_one.new.store) in
+    let initial = state (g.S.Store.told c.args.store.now).files (g.S.Store.told c.args.store.now).asked in
+    let now = state (g.S.Store.told c.loop-turn.store).files (g.S.Store.told c.loop-turn.store).asked in
+    let mid = state (g.S.Store.told c.discover_one.new.store).files (g.S.Store.told c.discover_one.new.store).asked in
     let unread : least_unread c.loop-turn.discovery ≡ Some (string_bytes c.in-Some.path) = sym (sym (ap (option_map string_bytes) c.in-Some.is) ∙ c.in_ok-next_path.ensures) in
     record {
       rest = finds_turns c.args.root.now initial (1024 - i) (1025 - (i + 1)) c.in_ok-more-in-Some.more mid (left_next i)
-          (finds_next (λ (d : Found). d) c.args.root.now initial (1024 - i) c.loop-turn.discovery (string_bytes c.in-Some.path) (g.S.Store.files c.loop-turn.store) (g.S.Store.files c.discover_one.new.store) (g.S.Store.asked c.loop-turn.store) (g.S.Store.asked c.discover_one.new.store) c.in_ok-more-in-Some.more
+          (finds_next (λ (d : Found). d) c.args.root.now initial (1024 - i) c.loop-turn.discovery (string_bytes c.in-Some.path) (g.S.Store.told c.loop-turn.store).files (g.S.Store.told c.discover_one.new.store).files (g.S.Store.told c.loop-turn.store).asked (g.S.Store.told c.discover_one.new.store).asked c.in_ok-more-in-Some.more
           unread c.in_ok-more-in-Some.ensures.files (finds_turns c.args.root.now initial (1025 - i) (suc (1024 - i)) c.loop-turn.discovery now (left_at i (omega (arith, c.loop-turn-test.true))) c.loop-turn.invariant.rest) c.in_ok-more-in-Some.ensures.does);
       same = c.in_ok-more-in-Some.ensures.files ∙ c.loop-turn.invariant.same;
       count = omega (arith, c.in_ok-more-in-Some.ensures.cause.later);
@@ -48,13 +48,13 @@ loop-turn-preserved g c =
 pub returns-in_err-next_path-clause-does : goal.returns-in_err-next_path-clause-does
 returns-in_err-next_path-clause-does g c =
     let p = err_from_is_err_and c.from_residual-in_err-next_path.result c.from_residual-in_err-next_path.ensures.1 in
-    rw (p.1, p.2) (finds_none c.args.root.now (state (g.S.Store.files c.args.store.now) (g.S.Store.asked c.args.store.now)) (1025 - c.loop-turn._turn) c.loop-turn.discovery _ _ c.loop-turn.invariant.rest)
+    rw (p.1, p.2) (finds_none c.args.root.now (state (g.S.Store.told c.args.store.now).files (g.S.Store.told c.args.store.now).asked) (1025 - c.loop-turn._turn) c.loop-turn.discovery _ _ c.loop-turn.invariant.rest)
 
 pub returns-in-None-clause-does : goal.returns-in-None-clause-does
 returns-in-None-clause-does g c =
     let i = c.loop-turn._turn in
-    let initial = state (g.S.Store.files c.args.store.now) (g.S.Store.asked c.args.store.now) in
-    let now = state (g.S.Store.files c.loop-turn.store) (g.S.Store.asked c.loop-turn.store) in
+    let initial = state (g.S.Store.told c.args.store.now).files (g.S.Store.told c.args.store.now).asked in
+    let now = state (g.S.Store.told c.loop-turn.store).files (g.S.Store.told c.loop-turn.store).asked in
     finds_all c.args.root.now initial (1024 - i) c.loop-turn.discovery _ _ (sym (sym (ap (option_map string_bytes) c.in-None.is) ∙ c.in_ok-next_path.ensures))
     (finds_turns c.args.root.now initial (1025 - i) (suc (1024 - i)) c.loop-turn.discovery now (left_at i (omega (arith, c.loop-turn-test.true))) c.loop-turn.invariant.rest)
 
@@ -62,15 +62,15 @@ pub returns-in_err-more-in-Some-clause-does : goal.returns-in_err-more-in-Some-c
 returns-in_err-more-in-Some-clause-does g c =
     let p = err_from_is_err_and c.from_residual-in_err-more-in-Some.result c.from_residual-in_err-more-in-Some.ensures.1 in
     let i = c.loop-turn._turn in
-    let initial = state (g.S.Store.files c.args.store.now) (g.S.Store.asked c.args.store.now) in
-    let now = state (g.S.Store.files c.loop-turn.store) (g.S.Store.asked c.loop-turn.store) in
+    let initial = state (g.S.Store.told c.args.store.now).files (g.S.Store.told c.args.store.now).asked in
+    let now = state (g.S.Store.told c.loop-turn.store).files (g.S.Store.told c.loop-turn.store).asked in
     rw (p.1, p.2)
-    (finds_stop (λ (d : Found). d) c.args.root.now initial (1024 - i) c.loop-turn.discovery (string_bytes c.in-Some.path) (g.S.Store.files c.loop-turn.store) (g.S.Store.asked c.loop-turn.store) (state (g.S.Store.files c.discover_one.new.store) (g.S.Store.asked c.discover_one.new.store)) c.in_err-more-in-Some.field-0.0
+    (finds_stop (λ (d : Found). d) c.args.root.now initial (1024 - i) c.loop-turn.discovery (string_bytes c.in-Some.path) (g.S.Store.told c.loop-turn.store).files (g.S.Store.told c.loop-turn.store).asked (state (g.S.Store.told c.discover_one.new.store).files (g.S.Store.told c.discover_one.new.store).asked) c.in_err-more-in-Some.field-0.0
     (sym (sym (ap (option_map string_bytes) c.in-Some.is) ∙ c.in_ok-next_path.ensures)) (finds_turns c.args.root.now initial (1025 - i) (suc (1024 - i)) c.loop-turn.discovery now (left_at i (omega (arith, c.loop-turn-test.true))) c.loop-turn.invariant.rest) c.in_err-more-in-Some.ensures.does)
 
 pub returns-clause-does : goal.returns-clause-does
 returns-clause-does g c =
-    finds_over c.args.root.now (state (g.S.Store.files c.args.store.now) (g.S.Store.asked c.args.store.now)) (1025 - c.loop-turn._turn) c.loop-turn.discovery _ _ (omega (arith, c.loop-turn-test.false)) c.loop-turn.invariant.rest
+    finds_over c.args.root.now (state (g.S.Store.told c.args.store.now).files (g.S.Store.told c.args.store.now).asked) (1025 - c.loop-turn._turn) c.loop-turn.discovery _ _ (omega (arith, c.loop-turn-test.false)) c.loop-turn.invariant.rest
 
 pub returns-in_err-discovery-clause-heard : goal.returns-in_err-discovery-clause-heard
 returns-in_err-discovery-clause-heard g c =

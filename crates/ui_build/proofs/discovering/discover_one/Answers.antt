@@ -17,20 +17,20 @@ returns-in_err-sources-clause-does g c =
     let p = err_from_is_err_and c.from_residual.result c.from_residual.ensures.1 in
     let path = string_bytes c.args.path in
     rw (p.1, p.2)
-    (told_stop sources_of (λ (d : Found). d) (λ told. find told (folder path)) (λ told sources. settled (within_limit (with_imports c.args.discovery path (imports_in path sources)))) _ _ (state (g.S.Store.files c.find.new.store) (g.S.Store.asked c.find.new.store)) c.in_err-sources.field-0.0 (rw c.as_str.ensures.value at c.in_err-sources.ensures.does))
+    (told_stop sources_of (λ (d : Found). d) (λ told. find told (folder path)) (λ told sources. settled (within_limit (with_imports c.args.discovery path (imports_in path sources)))) _ _ (state (g.S.Store.told c.find.new.store).files (g.S.Store.told c.find.new.store).asked) c.in_err-sources.field-0.0 (rw c.as_str.ensures.value at c.in_err-sources.ensures.does))
 
 pub returns-in_err-more-clause-does : goal.returns-in_err-more-clause-does
 returns-in_err-more-clause-does g c =
     let p = err_from_is_err_and c.from_residual-in_err-more.result c.from_residual-in_err-more.ensures.1 in
     let path = string_bytes c.args.path in
     rw (p.1, p.2)
-    (told_settled sources_of (λ (d : Found). d) (λ told. find told (folder path)) (λ sources. within_limit (with_imports c.args.discovery path (imports_in path sources))) (g.S.Store.files c.args.store.now) (g.S.Store.files c.find.new.store) (g.S.Store.asked c.args.store.now) (g.S.Store.asked c.find.new.store) c.in_ok-sources.sources (Err c.in_err-more.field-0.0) c.in_ok-sources.ensures.files
+    (told_settled sources_of (λ (d : Found). d) (λ told. find told (folder path)) (λ sources. within_limit (with_imports c.args.discovery path (imports_in path sources))) (g.S.Store.told c.args.store.now).files (g.S.Store.told c.find.new.store).files (g.S.Store.told c.args.store.now).asked (g.S.Store.told c.find.new.store).asked c.in_ok-sources.sources (Err c.in_err-more.field-0.0) c.in_ok-sources.ensures.files
     (rw c.as_str.ensures.value at c.in_ok-sources.ensures.does) (rw c.deref.ensures.value at c.in_err-more.ensures.settled))
 
 pub returns-clause-does : goal.returns-clause-does
 returns-clause-does g c =
     let path = string_bytes c.args.path in
-    told_settled sources_of (λ (d : Found). d) (λ told. find told (folder path)) (λ sources. within_limit (with_imports c.args.discovery path (imports_in path sources))) (g.S.Store.files c.args.store.now) (g.S.Store.files c.find.new.store) (g.S.Store.asked c.args.store.now) (g.S.Store.asked c.find.new.store) c.in_ok-sources.sources (Ok c.in_ok-more.more) c.in_ok-sources.ensures.files
+    told_settled sources_of (λ (d : Found). d) (λ told. find told (folder path)) (λ sources. within_limit (with_imports c.args.discovery path (imports_in path sources))) (g.S.Store.told c.args.store.now).files (g.S.Store.told c.find.new.store).files (g.S.Store.told c.args.store.now).asked (g.S.Store.told c.find.new.store).asked c.in_ok-sources.sources (Ok c.in_ok-more.more) c.in_ok-sources.ensures.files
     (rw c.as_str.ensures.value at c.in_ok-sources.ensures.does) (rw c.deref.ensures.value at c.in_ok-more.ensures.settled)
 
 pub returns-clause-found : goal.returns-clause-found

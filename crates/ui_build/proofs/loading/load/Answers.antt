@@ -29,20 +29,20 @@ returns-in_err-bytes-clause-does g c =
     let p = err_from_is_err_and c.from_residual-in_err-bytes.result c.from_residual-in_err-bytes.ensures.1 in
     let name = linked_file c.args.path.now in
     rw (p.1, p.2)
-    (told_stop (option_map (λ (v : Vec ℕ Global). v.items)) loaded_of (λ told. read_file told name file_limit) (λ told bytes. settled (recorded name c.args.path.now bytes)) _ _ (state (g.S.Store.files c.read_file.new.store) (g.S.Store.asked c.read_file.new.store)) c.in_err-bytes.field-0.0 (rw (c.in_ok-asked.ensures, c.in_ok-linked.ensures) at c.in_err-bytes.ensures.does))
+    (told_stop (option_map (λ (v : Vec ℕ Global). v.items)) loaded_of (λ told. read_file told name file_limit) (λ told bytes. settled (recorded name c.args.path.now bytes)) _ _ (state (g.S.Store.told c.read_file.new.store).files (g.S.Store.told c.read_file.new.store).asked) c.in_err-bytes.field-0.0 (rw (c.in_ok-asked.ensures, c.in_ok-linked.ensures) at c.in_err-bytes.ensures.does))
 
 pub returns-in_err-loaded-clause-does : goal.returns-in_err-loaded-clause-does
 returns-in_err-loaded-clause-does g c =
     let p = err_from_is_err_and c.from_residual-in_err-loaded.result c.from_residual-in_err-loaded.ensures.1 in
     let name = linked_file c.args.path.now in
     rw (p.1, p.2)
-    (told_settled (option_map (λ (v : Vec ℕ Global). v.items)) loaded_of (λ told. read_file told name file_limit) (λ bytes. recorded name c.args.path.now bytes) (g.S.Store.files c.args.store.now) (g.S.Store.files c.read_file.new.store) (g.S.Store.asked c.args.store.now) (g.S.Store.asked c.read_file.new.store) c.in_ok-bytes.bytes (Err c.in_err-loaded.field-0.0) c.in_ok-bytes.ensures.files
+    (told_settled (option_map (λ (v : Vec ℕ Global). v.items)) loaded_of (λ told. read_file told name file_limit) (λ bytes. recorded name c.args.path.now bytes) (g.S.Store.told c.args.store.now).files (g.S.Store.told c.read_file.new.store).files (g.S.Store.told c.args.store.now).asked (g.S.Store.told c.read_file.new.store).asked c.in_ok-bytes.bytes (Err c.in_err-loaded.field-0.0) c.in_ok-bytes.ensures.files
     (rw (c.in_ok-asked.ensures, c.in_ok-linked.ensures) at c.in_ok-bytes.ensures.does) (rw c.in_ok-linked.ensures at c.in_err-loaded.ensures.settled))
 
 pub returns-clause-does : goal.returns-clause-does
 returns-clause-does g c =
     let name = linked_file c.args.path.now in
-    told_settled (option_map (λ (v : Vec ℕ Global). v.items)) loaded_of (λ told. read_file told name file_limit) (λ bytes. recorded name c.args.path.now bytes) (g.S.Store.files c.args.store.now) (g.S.Store.files c.read_file.new.store) (g.S.Store.asked c.args.store.now) (g.S.Store.asked c.read_file.new.store) c.in_ok-bytes.bytes (Ok c.in_ok-loaded.loaded) c.in_ok-bytes.ensures.files
+    told_settled (option_map (λ (v : Vec ℕ Global). v.items)) loaded_of (λ told. read_file told name file_limit) (λ bytes. recorded name c.args.path.now bytes) (g.S.Store.told c.args.store.now).files (g.S.Store.told c.read_file.new.store).files (g.S.Store.told c.args.store.now).asked (g.S.Store.told c.read_file.new.store).asked c.in_ok-bytes.bytes (Ok c.in_ok-loaded.loaded) c.in_ok-bytes.ensures.files
     (rw (c.in_ok-asked.ensures, c.in_ok-linked.ensures) at c.in_ok-bytes.ensures.does) (rw c.in_ok-linked.ensures at c.in_ok-loaded.ensures.settled)
 
 pub returns-in_err-linked-clause-heard : goal.returns-in_err-linked-clause-heard

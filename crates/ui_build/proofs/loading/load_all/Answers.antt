@@ -16,7 +16,7 @@ returns-in_err-loaded-clause-does g c =
     let p = err_from_is_err_and c.from_residual.result c.from_residual.ensures.1 in
     let here = c.as_str.ensures.value ∙ ap string_bytes c.path-item.is in
     rw (p.1, p.2)
-    (goes_stop c.args.paths.now (state (g.S.Store.files c.args.store.now) (g.S.Store.asked c.args.store.now)) (g.S.Store.files c.loop-path.store) (g.S.Store.asked c.loop-path.store) (state (g.S.Store.files c.load.new.store) (g.S.Store.asked c.load.new.store)) c.loop-path.path-index c.path-item.result (c.loop-path.files.items, c.loop-path.prints.items) c.in_err-loaded.field-0.0
+    (goes_stop c.args.paths.now (state (g.S.Store.told c.args.store.now).files (g.S.Store.told c.args.store.now).asked) (g.S.Store.told c.loop-path.store).files (g.S.Store.told c.loop-path.store).asked (state (g.S.Store.told c.load.new.store).files (g.S.Store.told c.load.new.store).asked) c.loop-path.path-index c.path-item.result (c.loop-path.files.items, c.loop-path.prints.items) c.in_err-loaded.field-0.0
     (omega arith) c.loop-path.invariant.rest (rw here at c.in_err-loaded.ensures.does))
 
 pub returns-in_err-push-clause-does : goal.returns-in_err-push-clause-does
@@ -25,8 +25,8 @@ returns-in_err-push-clause-does g c =
     let here = c.as_str.ensures.value ∙ ap string_bytes c.path-item.is in
     let l = c.in_ok-loaded.loaded in
     rw (p.1, p.2)
-    (goes_none c.args.paths.now (state (g.S.Store.files c.args.store.now) (g.S.Store.asked c.args.store.now)) (g.S.Store.files c.load.new.store) (g.S.Store.asked c.load.new.store) (c.loop-path.path-index + 1) (c.loop-path.files.items ++ l.linked ∷ [], c.loop-path.prints.items ++ l.print ∷ [])
-    (goes_next c.args.paths.now (state (g.S.Store.files c.args.store.now) (g.S.Store.asked c.args.store.now)) (g.S.Store.files c.loop-path.store) (g.S.Store.files c.load.new.store) (g.S.Store.asked c.loop-path.store) (g.S.Store.asked c.load.new.store) c.loop-path.path-index c.path-item.result (c.loop-path.files.items, c.loop-path.prints.items) l
+    (goes_none c.args.paths.now (state (g.S.Store.told c.args.store.now).files (g.S.Store.told c.args.store.now).asked) (g.S.Store.told c.load.new.store).files (g.S.Store.told c.load.new.store).asked (c.loop-path.path-index + 1) (c.loop-path.files.items ++ l.linked ∷ [], c.loop-path.prints.items ++ l.print ∷ [])
+    (goes_next c.args.paths.now (state (g.S.Store.told c.args.store.now).files (g.S.Store.told c.args.store.now).asked) (g.S.Store.told c.loop-path.store).files (g.S.Store.told c.load.new.store).files (g.S.Store.told c.loop-path.store).asked (g.S.Store.told c.load.new.store).asked c.loop-path.path-index c.path-item.result (c.loop-path.files.items, c.loop-path.prints.items) l
     (omega arith) c.in_ok-loaded.ensures.files c.loop-path.invariant.rest (rw here at c.in_ok-loaded.ensures.does)))
 
 pub returns-in_err-push-2-clause-does : goal.returns-in_err-push-2-clause-does
@@ -35,12 +35,12 @@ returns-in_err-push-2-clause-does g c =
     let here = c.as_str.ensures.value ∙ ap string_bytes c.path-item.is in
     let l = c.in_ok-loaded.loaded in
     rw (p.1, p.2)
-    (goes_none c.args.paths.now (state (g.S.Store.files c.args.store.now) (g.S.Store.asked c.args.store.now)) (g.S.Store.files c.load.new.store) (g.S.Store.asked c.load.new.store) (c.loop-path.path-index + 1) (c.loop-path.files.items ++ l.linked ∷ [], c.loop-path.prints.items ++ l.print ∷ [])
-    (goes_next c.args.paths.now (state (g.S.Store.files c.args.store.now) (g.S.Store.asked c.args.store.now)) (g.S.Store.files c.loop-path.store) (g.S.Store.files c.load.new.store) (g.S.Store.asked c.loop-path.store) (g.S.Store.asked c.load.new.store) c.loop-path.path-index c.path-item.result (c.loop-path.files.items, c.loop-path.prints.items) l
+    (goes_none c.args.paths.now (state (g.S.Store.told c.args.store.now).files (g.S.Store.told c.args.store.now).asked) (g.S.Store.told c.load.new.store).files (g.S.Store.told c.load.new.store).asked (c.loop-path.path-index + 1) (c.loop-path.files.items ++ l.linked ∷ [], c.loop-path.prints.items ++ l.print ∷ [])
+    (goes_next c.args.paths.now (state (g.S.Store.told c.args.store.now).files (g.S.Store.told c.args.store.now).asked) (g.S.Store.told c.loop-path.store).files (g.S.Store.told c.load.new.store).files (g.S.Store.told c.loop-path.store).asked (g.S.Store.told c.load.new.store).asked c.loop-path.path-index c.path-item.result (c.loop-path.files.items, c.loop-path.prints.items) l
     (omega arith) c.in_ok-loaded.ensures.files c.loop-path.invariant.rest (rw here at c.in_ok-loaded.ensures.does)))
 
 pub loop-path-init : goal.loop-path-init
-loop-path-init g c = rw (c.new-files.ensures.items, c.new-prints.ensures.items) (record { rest = λ new r d. d; same = refl; count = omega arith; paths = refl; paired = refl; sound = refl; heard = loaded_first c.args.paths.now (g.S.Store.heard c.args.store.now) })
+loop-path-init g c = rw (c.new-files.ensures.items, c.new-prints.ensures.items) (record { rest = λ new r d. d; same = refl; count = omega arith; paths = refl; paired = refl; sound = refl; heard = loaded_first c.args.paths.now (g.S.Store.told c.args.store.now).heard })
 
 pub loop-path-preserved : goal.loop-path-preserved
 loop-path-preserved g c =
@@ -50,7 +50,7 @@ loop-path-preserved g c =
     let prints = c.loop-path.prints.items in
     let valid : is_path l.linked.export.path ≡ true = ap is_path (c.in_ok-loaded.ensures.own ∙ here) ∙ valid_at c.args.paths.now c.loop-path.path-index c.path-item.result (omega arith) c.requires in
     rw (c.in_ok-push.ensures.items, c.in_ok-push-2.ensures.items) (record {
-      rest = goes_next c.args.paths.now (state (g.S.Store.files c.args.store.now) (g.S.Store.asked c.args.store.now)) (g.S.Store.files c.loop-path.store) (g.S.Store.files c.load.new.store) (g.S.Store.asked c.loop-path.store) (g.S.Store.asked c.load.new.store) c.loop-path.path-index c.path-item.result (files, prints) l
+      rest = goes_next c.args.paths.now (state (g.S.Store.told c.args.store.now).files (g.S.Store.told c.args.store.now).asked) (g.S.Store.told c.loop-path.store).files (g.S.Store.told c.load.new.store).files (g.S.Store.told c.loop-path.store).asked (g.S.Store.told c.load.new.store).asked c.loop-path.path-index c.path-item.result (files, prints) l
           (omega arith) c.in_ok-loaded.ensures.files c.loop-path.invariant.rest (rw here at c.in_ok-loaded.ensures.does);
       same = c.in_ok-loaded.ensures.files ∙ c.loop-path.invariant.same;
       count = omega (arith, c.in_ok-loaded.ensures.cause.later);
@@ -62,7 +62,7 @@ loop-path-preserved g c =
 
 pub returns-clause-does : goal.returns-clause-does
 returns-clause-does g c =
-    goes_last c.args.paths.now (state (g.S.Store.files c.args.store.now) (g.S.Store.asked c.args.store.now)) (g.S.Store.files c.loop-path.store) (g.S.Store.asked c.loop-path.store) c.loop-path.path-index (record { files = c.loop-path.files; prints = c.loop-path.prints }) (nothing_left c.args.paths.now c.loop-path.path-index (omega arith)) c.loop-path.invariant.rest
+    goes_last c.args.paths.now (state (g.S.Store.told c.args.store.now).files (g.S.Store.told c.args.store.now).asked) (g.S.Store.told c.loop-path.store).files (g.S.Store.told c.loop-path.store).asked c.loop-path.path-index (record { files = c.loop-path.files; prints = c.loop-path.prints }) (nothing_left c.args.paths.now c.loop-path.path-index (omega arith)) c.loop-path.invariant.rest
 
 pub returns-in_err-loaded-clause-heard : goal.returns-in_err-loaded-clause-heard
 returns-in_err-loaded-clause-heard g c =
@@ -74,7 +74,7 @@ returns-in_err-push-clause-heard g c =
     let p = err_from_is_err_and c.from_residual-in_err-push.result c.from_residual-in_err-push.ensures.1 in
     let there = c.as_str.ensures.value ∙ ap string_bytes c.path-item.is in
     rw (p.1, p.2)
-    (loaded_none (λ (i : Imports). LoadsImports (map string_bytes c.args.paths.now) (imports_of i)) c.args.paths.now (c.loop-path.path-index + 1) _ (g.S.Store.heard c.args.store.now) _
+    (loaded_none (λ (i : Imports). LoadsImports (map string_bytes c.args.paths.now) (imports_of i)) c.args.paths.now (c.loop-path.path-index + 1) _ (g.S.Store.told c.args.store.now).heard _
     (loaded_next loaded_of c.args.paths.now c.loop-path.path-index c.path-item.result (c.loop-path.files.items, c.loop-path.prints.items) c.in_ok-loaded.loaded _ _ _ (omega arith) c.loop-path.invariant.heard (rw there at c.in_ok-loaded.ensures.heard)))
 
 pub returns-in_err-push-2-clause-heard : goal.returns-in_err-push-2-clause-heard
@@ -82,7 +82,7 @@ returns-in_err-push-2-clause-heard g c =
     let p = err_from_is_err_and c.from_residual-in_err-push-2.result c.from_residual-in_err-push-2.ensures.1 in
     let there = c.as_str.ensures.value ∙ ap string_bytes c.path-item.is in
     rw (p.1, p.2)
-    (loaded_none (λ (i : Imports). LoadsImports (map string_bytes c.args.paths.now) (imports_of i)) c.args.paths.now (c.loop-path.path-index + 1) _ (g.S.Store.heard c.args.store.now) _
+    (loaded_none (λ (i : Imports). LoadsImports (map string_bytes c.args.paths.now) (imports_of i)) c.args.paths.now (c.loop-path.path-index + 1) _ (g.S.Store.told c.args.store.now).heard _
     (loaded_next loaded_of c.args.paths.now c.loop-path.path-index c.path-item.result (c.loop-path.files.items, c.loop-path.prints.items) c.in_ok-loaded.loaded _ _ _ (omega arith) c.loop-path.invariant.heard (rw there at c.in_ok-loaded.ensures.heard)))
 
 pub returns-clause-heard : goal.returns-clause-heard

@@ -7,11 +7,11 @@ use Rattle.ui_build.proofs.loading.load_all.Given as goal
 
 abbrev pub invariant-loop-path : goal.invariant-loop-path
 invariant-loop-path g l = record {
-  rest : GoesOn l.paths (state (g.S.Store.files l.initial.store) (g.S.Store.asked l.initial.store)) l.path-index (l.files.items, l.prints.items) (state (g.S.Store.files l.store) (g.S.Store.asked l.store));
-  same : g.S.Store.files l.store ≡ g.S.Store.files l.initial.store;
-  count : g.S.Store.faults l.initial.store ≤ g.S.Store.faults l.store;
+  rest : GoesOn l.paths (state (g.S.Store.told l.initial.store).files (g.S.Store.told l.initial.store).asked) l.path-index (l.files.items, l.prints.items) (state (g.S.Store.told l.store).files (g.S.Store.told l.store).asked);
+  same : (g.S.Store.told l.store).files ≡ (g.S.Store.told l.initial.store).files;
+  count : (g.S.Store.told l.initial.store).faults ≤ (g.S.Store.told l.store).faults;
   paths : map (λ x. x.export.path) l.files.items ≡ map string_bytes (take l.path-index l.paths);
   paired : length l.files.items ≡ length l.prints.items;
-  heard : LoadedSoFar l.paths l.path-index (l.files.items, l.prints.items) (g.S.Store.heard l.initial.store) (g.S.Store.heard l.store);
+  heard : LoadedSoFar l.paths l.path-index (l.files.items, l.prints.items) (g.S.Store.told l.initial.store).heard (g.S.Store.told l.store).heard;
   sound : are_sound (claims l.files.items l.prints.items) ≡ true;
 }

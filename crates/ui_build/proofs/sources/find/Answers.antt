@@ -7,7 +7,7 @@ use Rattle.ui_build.specs.Plan.{NoFile, Plan, ◌>>=◌}
 use Rattle.ui_sources.specs.Sources.{Source, source_of}
 use Rattle.ui_build.specs.Package.{folder, list_folder, read_sources, some_source, is_source, find}
 use Rattle.ui_build.specs.Sources.{sources_of}
-use Rattle.ui_build.specs.Stops.{state, DoesTold}
+use Rattle.ui_build.specs.Stops.{state, DoesSeen}
 use Rattle.ui_build.specs.declared.stop.Refusal.TheVariants as told
 use Rattle.ui_build.specs.declared.stop.Stop.TheVariants as stop
 use Rattle.ui_build.proofs.Reading.{some_source-none, some_source-some}
@@ -42,7 +42,7 @@ returns-in_err-sources-clause-does g c =
     let p = err_from_is_err_and c.from_residual-in_err-sources.result c.from_residual-in_err-sources.ensures.1 in
     let dir = folder c.args.path.now in
     rw (p.1, p.2)
-    (told_then texts sources_of (λ told. list_folder told dir) (λ told names. read_sources told dir [] (filter is_source names) >>= λ sources. some_source dir sources) _ _ _ _ (state (g.S.Store.files c.read_sources.new.store) (g.S.Store.asked c.read_sources.new.store)) c.in_ok-names.names (Err c.in_err-sources.field-0.0) c.in_ok-names.ensures.files
+    (told_then texts sources_of (λ told. list_folder told dir) (λ told names. read_sources told dir [] (filter is_source names) >>= λ sources. some_source dir sources) _ _ _ _ (state (g.S.Store.told c.read_sources.new.store).files (g.S.Store.told c.read_sources.new.store).asked) c.in_ok-names.names (Err c.in_err-sources.field-0.0) c.in_ok-names.ensures.files
     (rw (c.in_ok-asked.ensures, c.in_ok-folder.ensures) at c.in_ok-names.ensures.does)
     (told_stop sources_of sources_of (λ told. read_sources told dir [] (filter is_source (texts c.in_ok-names.names))) (λ told sources. some_source dir sources) _ _ _ c.in_err-sources.field-0.0
     (rw (c.as_str.ensures.value, c.in_ok-folder.ensures, c.deref.ensures.value) at c.in_err-sources.ensures.does)))
@@ -51,10 +51,10 @@ pub returns-then-is_empty-clause-does : goal.returns-then-is_empty-clause-does
 returns-then-is_empty-clause-does g c =
     let dir = folder c.args.path.now in
     let none : length c.in_ok-sources.sources.items ≡ 0 = grind (arith, common_steps) in
-    let P : Plan (List Source) → Type 0 = λ q. DoesTold sources_of (λ _. q) (state (g.S.Store.files c.read_sources.new.store) (g.S.Store.asked c.read_sources.new.store)) (state (g.S.Store.files c.read_sources.new.store) (g.S.Store.asked c.read_sources.new.store)) (Err (stop.Refused (told.NoFile c.in_ok-folder.folder))) in
-    told_then texts sources_of (λ told. list_folder told dir) (λ told names. read_sources told dir [] (filter is_source names) >>= λ sources. some_source dir sources) _ _ _ _ (state (g.S.Store.files c.read_sources.new.store) (g.S.Store.asked c.read_sources.new.store)) c.in_ok-names.names (Err (stop.Refused (told.NoFile c.in_ok-folder.folder))) c.in_ok-names.ensures.files
+    let P : Plan (List Source) → Type 0 = λ q. DoesSeen sources_of (λ _. q) (state (g.S.Store.told c.read_sources.new.store).files (g.S.Store.told c.read_sources.new.store).asked) (state (g.S.Store.told c.read_sources.new.store).files (g.S.Store.told c.read_sources.new.store).asked) (Err (stop.Refused (told.NoFile c.in_ok-folder.folder))) in
+    told_then texts sources_of (λ told. list_folder told dir) (λ told names. read_sources told dir [] (filter is_source names) >>= λ sources. some_source dir sources) _ _ _ _ (state (g.S.Store.told c.read_sources.new.store).files (g.S.Store.told c.read_sources.new.store).asked) c.in_ok-names.names (Err (stop.Refused (told.NoFile c.in_ok-folder.folder))) c.in_ok-names.ensures.files
     (rw (c.in_ok-asked.ensures, c.in_ok-folder.ensures) at c.in_ok-names.ensures.does)
-    (told_then sources_of sources_of (λ told. read_sources told dir [] (filter is_source (texts c.in_ok-names.names))) (λ told sources. some_source dir sources) _ _ _ _ (state (g.S.Store.files c.read_sources.new.store) (g.S.Store.asked c.read_sources.new.store)) c.in_ok-sources.sources (Err (stop.Refused (told.NoFile c.in_ok-folder.folder))) c.in_ok-sources.ensures.files
+    (told_then sources_of sources_of (λ told. read_sources told dir [] (filter is_source (texts c.in_ok-names.names))) (λ told sources. some_source dir sources) _ _ _ _ (state (g.S.Store.told c.read_sources.new.store).files (g.S.Store.told c.read_sources.new.store).asked) c.in_ok-sources.sources (Err (stop.Refused (told.NoFile c.in_ok-folder.folder))) c.in_ok-sources.ensures.files
     (rw (c.as_str.ensures.value, c.in_ok-folder.ensures, c.deref.ensures.value) at c.in_ok-sources.ensures.does)
     (subst P (sym (some_source-none dir c.in_ok-sources.sources.items none)) (told_refused sources_of (NoFile dir) (told.NoFile c.in_ok-folder.folder) _ _ (ap NoFile (sym c.in_ok-folder.ensures)))))
 
@@ -62,10 +62,10 @@ pub returns-clause-does : goal.returns-clause-does
 returns-clause-does g c =
     let dir = folder c.args.path.now in
     let some : 0 < length c.in_ok-sources.sources.items = grind (arith, common_steps) in
-    let P : Plan (List Source) → Type 0 = λ q. DoesTold sources_of (λ _. q) (state (g.S.Store.files c.read_sources.new.store) (g.S.Store.asked c.read_sources.new.store)) (state (g.S.Store.files c.read_sources.new.store) (g.S.Store.asked c.read_sources.new.store)) (Ok c.in_ok-sources.sources) in
-    told_then texts sources_of (λ told. list_folder told dir) (λ told names. read_sources told dir [] (filter is_source names) >>= λ sources. some_source dir sources) _ _ _ _ (state (g.S.Store.files c.read_sources.new.store) (g.S.Store.asked c.read_sources.new.store)) c.in_ok-names.names (Ok c.in_ok-sources.sources) c.in_ok-names.ensures.files
+    let P : Plan (List Source) → Type 0 = λ q. DoesSeen sources_of (λ _. q) (state (g.S.Store.told c.read_sources.new.store).files (g.S.Store.told c.read_sources.new.store).asked) (state (g.S.Store.told c.read_sources.new.store).files (g.S.Store.told c.read_sources.new.store).asked) (Ok c.in_ok-sources.sources) in
+    told_then texts sources_of (λ told. list_folder told dir) (λ told names. read_sources told dir [] (filter is_source names) >>= λ sources. some_source dir sources) _ _ _ _ (state (g.S.Store.told c.read_sources.new.store).files (g.S.Store.told c.read_sources.new.store).asked) c.in_ok-names.names (Ok c.in_ok-sources.sources) c.in_ok-names.ensures.files
     (rw (c.in_ok-asked.ensures, c.in_ok-folder.ensures) at c.in_ok-names.ensures.does)
-    (told_then sources_of sources_of (λ told. read_sources told dir [] (filter is_source (texts c.in_ok-names.names))) (λ told sources. some_source dir sources) _ _ _ _ (state (g.S.Store.files c.read_sources.new.store) (g.S.Store.asked c.read_sources.new.store)) c.in_ok-sources.sources (Ok c.in_ok-sources.sources) c.in_ok-sources.ensures.files
+    (told_then sources_of sources_of (λ told. read_sources told dir [] (filter is_source (texts c.in_ok-names.names))) (λ told sources. some_source dir sources) _ _ _ _ (state (g.S.Store.told c.read_sources.new.store).files (g.S.Store.told c.read_sources.new.store).asked) c.in_ok-sources.sources (Ok c.in_ok-sources.sources) c.in_ok-sources.ensures.files
     (rw (c.as_str.ensures.value, c.in_ok-folder.ensures, c.deref.ensures.value) at c.in_ok-sources.ensures.does)
     (subst P (sym (some_source-some dir c.in_ok-sources.sources.items some)) (told_done sources_of (sources_of c.in_ok-sources.sources) c.in_ok-sources.sources _ _ refl)))
 

@@ -36,7 +36,7 @@ returns-in_err-bytes-clause-does g c =
 pub returns-clause-does : goal.returns-clause-does
 returns-clause-does g c =
     let name = file_in c.args.folder.now c.args.part.now in
-    told_then (option_map (λ (v : Vec ℕ Global). v.items)) source_of (λ told. read_file told name source_limit) (λ told bytes. done (name, bytes)) _ _ _ _ (state (g.S.Store.files c.read_file.new.store) (g.S.Store.asked c.read_file.new.store)) c.in_ok-bytes.bytes (Ok (record { name = c.in_ok-name.name; bytes = c.in_ok-bytes.bytes })) c.in_ok-bytes.ensures.files
+    told_then (option_map (λ (v : Vec ℕ Global). v.items)) source_of (λ told. read_file told name source_limit) (λ told bytes. done (name, bytes)) _ _ _ _ (state (g.S.Store.told c.read_file.new.store).files (g.S.Store.told c.read_file.new.store).asked) c.in_ok-bytes.bytes (Ok (record { name = c.in_ok-name.name; bytes = c.in_ok-bytes.bytes })) c.in_ok-bytes.ensures.files
     (rw (c.in_ok-asked.ensures, c.in_ok-name.ensures) at c.in_ok-bytes.ensures.does)
     (told_done source_of (name, option_map (λ (v : Vec ℕ Global). v.items) c.in_ok-bytes.bytes) (record { name = c.in_ok-name.name; bytes = c.in_ok-bytes.bytes }) _ _ (ap (λ n. (n, option_map (λ (v : Vec ℕ Global). v.items) c.in_ok-bytes.bytes)) (sym c.in_ok-name.ensures)))
 

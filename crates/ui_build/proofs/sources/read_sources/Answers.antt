@@ -21,15 +21,15 @@ loop-name-preserved-then-not-is_source g c =
       files = c.loop-name.invariant.files;
       heard = so_far_past c.args.folder.now c.args.names.now c.loop-name.name-index c.name-item.result (sources_of c.loop-name.sources) _ _ (omega arith) (sym (ap is_source here) ∙ sym c.if-not-is_source.ensures) c.loop-name.invariant.heard;
       count = c.loop-name.invariant.count;
-      rest = continues_past c.args.folder.now c.args.names.now (state (g.S.Store.files c.args.store.now) (g.S.Store.asked c.args.store.now)) (state (g.S.Store.files c.loop-name.store) (g.S.Store.asked c.loop-name.store)) c.loop-name.name-index c.name-item.result (sources_of c.loop-name.sources) (omega arith) (sym (ap is_source here) ∙ sym c.if-not-is_source.ensures) c.loop-name.invariant.rest;
+      rest = continues_past c.args.folder.now c.args.names.now (state (g.S.Store.told c.args.store.now).files (g.S.Store.told c.args.store.now).asked) (state (g.S.Store.told c.loop-name.store).files (g.S.Store.told c.loop-name.store).asked) c.loop-name.name-index c.name-item.result (sources_of c.loop-name.sources) (omega arith) (sym (ap is_source here) ∙ sym c.if-not-is_source.ensures) c.loop-name.invariant.rest;
     }
 
 pub loop-name-preserved : goal.loop-name-preserved
 loop-name-preserved g c =
     let here = c.as_str.ensures.value ∙ ap string_bytes c.name-item.is in
     let there = c.as_str-in-loop-name.ensures.value ∙ ap string_bytes c.name-item.is in
-    let P : List Source → Type 0 = λ ss. Continues c.args.folder.now c.args.names.now (state (g.S.Store.files c.args.store.now) (g.S.Store.asked c.args.store.now)) (c.loop-name.name-index + 1) ss (state (g.S.Store.files c.read_source.new.store) (g.S.Store.asked c.read_source.new.store)) in
-    let Q : List Source → Type 0 = λ ss. ReadSoFar c.args.folder.now c.args.names.now (c.loop-name.name-index + 1) ss (g.S.Store.heard c.args.store.now) (g.S.Store.heard c.read_source.new.store) in
+    let P : List Source → Type 0 = λ ss. Continues c.args.folder.now c.args.names.now (state (g.S.Store.told c.args.store.now).files (g.S.Store.told c.args.store.now).asked) (c.loop-name.name-index + 1) ss (state (g.S.Store.told c.read_source.new.store).files (g.S.Store.told c.read_source.new.store).asked) in
+    let Q : List Source → Type 0 = λ ss. ReadSoFar c.args.folder.now c.args.names.now (c.loop-name.name-index + 1) ss (g.S.Store.told c.args.store.now).heard (g.S.Store.told c.read_source.new.store).heard in
     record {
       files = c.in_ok-source.ensures.files ∙ c.loop-name.invariant.files;
       heard = subst Q (sym (ap (map source_of) c.in_ok-push.ensures.items ∙ map-append source_of c.loop-name.sources.items (c.in_ok-source.source ∷ [])))
@@ -37,7 +37,7 @@ loop-name-preserved g c =
           (omega arith) (sym (ap is_source here) ∙ sym c.if-not-is_source.ensures) (rw there at c.in_ok-source.ensures.name) c.loop-name.invariant.heard c.in_ok-source.ensures.heard);
       count = omega (arith, c.in_ok-source.ensures.cause.later);
       rest = subst P (sym (ap (map source_of) c.in_ok-push.ensures.items ∙ map-append source_of c.loop-name.sources.items (c.in_ok-source.source ∷ [])))
-          (continues_next c.args.folder.now c.args.names.now (state (g.S.Store.files c.args.store.now) (g.S.Store.asked c.args.store.now)) (g.S.Store.files c.loop-name.store) (g.S.Store.files c.read_source.new.store) (g.S.Store.asked c.loop-name.store) (g.S.Store.asked c.read_source.new.store) c.loop-name.name-index c.name-item.result (sources_of c.loop-name.sources) c.in_ok-source.source
+          (continues_next c.args.folder.now c.args.names.now (state (g.S.Store.told c.args.store.now).files (g.S.Store.told c.args.store.now).asked) (g.S.Store.told c.loop-name.store).files (g.S.Store.told c.read_source.new.store).files (g.S.Store.told c.loop-name.store).asked (g.S.Store.told c.read_source.new.store).asked c.loop-name.name-index c.name-item.result (sources_of c.loop-name.sources) c.in_ok-source.source
           (omega arith) (sym (ap is_source here) ∙ sym c.if-not-is_source.ensures) c.in_ok-source.ensures.files c.loop-name.invariant.rest (rw there at c.in_ok-source.ensures.does));
     }
 
@@ -47,7 +47,7 @@ returns-in_err-source-clause-does g c =
     let here = c.as_str.ensures.value ∙ ap string_bytes c.name-item.is in
     let there = c.as_str-in-loop-name.ensures.value ∙ ap string_bytes c.name-item.is in
     rw (p.1, p.2)
-    (continues_stop c.args.folder.now c.args.names.now (state (g.S.Store.files c.args.store.now) (g.S.Store.asked c.args.store.now)) (g.S.Store.files c.loop-name.store) (g.S.Store.asked c.loop-name.store) (state (g.S.Store.files c.read_source.new.store) (g.S.Store.asked c.read_source.new.store)) c.loop-name.name-index c.name-item.result (sources_of c.loop-name.sources) c.in_err-source.field-0.0
+    (continues_stop c.args.folder.now c.args.names.now (state (g.S.Store.told c.args.store.now).files (g.S.Store.told c.args.store.now).asked) (g.S.Store.told c.loop-name.store).files (g.S.Store.told c.loop-name.store).asked (state (g.S.Store.told c.read_source.new.store).files (g.S.Store.told c.read_source.new.store).asked) c.loop-name.name-index c.name-item.result (sources_of c.loop-name.sources) c.in_err-source.field-0.0
     (omega arith) (sym (ap is_source here) ∙ sym c.if-not-is_source.ensures) c.loop-name.invariant.rest (rw there at c.in_err-source.ensures.does))
 
 pub returns-in_err-push-clause-does : goal.returns-in_err-push-clause-does
@@ -55,15 +55,15 @@ returns-in_err-push-clause-does g c =
     let p = err_from_is_err_and c.from_residual-in_err-push.result c.from_residual-in_err-push.ensures.1 in
     let here = c.as_str.ensures.value ∙ ap string_bytes c.name-item.is in
     let there = c.as_str-in-loop-name.ensures.value ∙ ap string_bytes c.name-item.is in
-    let P : List Source → Type 0 = λ ss. Continues c.args.folder.now c.args.names.now (state (g.S.Store.files c.args.store.now) (g.S.Store.asked c.args.store.now)) (c.loop-name.name-index + 1) ss (state (g.S.Store.files c.read_source.new.store) (g.S.Store.asked c.read_source.new.store)) in
+    let P : List Source → Type 0 = λ ss. Continues c.args.folder.now c.args.names.now (state (g.S.Store.told c.args.store.now).files (g.S.Store.told c.args.store.now).asked) (c.loop-name.name-index + 1) ss (state (g.S.Store.told c.read_source.new.store).files (g.S.Store.told c.read_source.new.store).asked) in
     rw (p.1, p.2)
-    (continues_none c.args.folder.now c.args.names.now (state (g.S.Store.files c.args.store.now) (g.S.Store.asked c.args.store.now)) (g.S.Store.files c.read_source.new.store) (g.S.Store.asked c.read_source.new.store) (c.loop-name.name-index + 1) (sources_of c.loop-name.sources ++ source_of c.in_ok-source.source ∷ [])
-    (continues_next c.args.folder.now c.args.names.now (state (g.S.Store.files c.args.store.now) (g.S.Store.asked c.args.store.now)) (g.S.Store.files c.loop-name.store) (g.S.Store.files c.read_source.new.store) (g.S.Store.asked c.loop-name.store) (g.S.Store.asked c.read_source.new.store) c.loop-name.name-index c.name-item.result (sources_of c.loop-name.sources) c.in_ok-source.source
+    (continues_none c.args.folder.now c.args.names.now (state (g.S.Store.told c.args.store.now).files (g.S.Store.told c.args.store.now).asked) (g.S.Store.told c.read_source.new.store).files (g.S.Store.told c.read_source.new.store).asked (c.loop-name.name-index + 1) (sources_of c.loop-name.sources ++ source_of c.in_ok-source.source ∷ [])
+    (continues_next c.args.folder.now c.args.names.now (state (g.S.Store.told c.args.store.now).files (g.S.Store.told c.args.store.now).asked) (g.S.Store.told c.loop-name.store).files (g.S.Store.told c.read_source.new.store).files (g.S.Store.told c.loop-name.store).asked (g.S.Store.told c.read_source.new.store).asked c.loop-name.name-index c.name-item.result (sources_of c.loop-name.sources) c.in_ok-source.source
     (omega arith) (sym (ap is_source here) ∙ sym c.if-not-is_source.ensures) c.in_ok-source.ensures.files c.loop-name.invariant.rest (rw there at c.in_ok-source.ensures.does)))
 
 pub returns-clause-does : goal.returns-clause-does
 returns-clause-does g c =
-    continues_last c.args.folder.now c.args.names.now (state (g.S.Store.files c.args.store.now) (g.S.Store.asked c.args.store.now)) (g.S.Store.files c.loop-name.store) (g.S.Store.asked c.loop-name.store) c.loop-name.name-index c.loop-name.sources (nothing_left c.args.names.now c.loop-name.name-index (omega arith)) c.loop-name.invariant.rest
+    continues_last c.args.folder.now c.args.names.now (state (g.S.Store.told c.args.store.now).files (g.S.Store.told c.args.store.now).asked) (g.S.Store.told c.loop-name.store).files (g.S.Store.told c.loop-name.store).asked c.loop-name.name-index c.loop-name.sources (nothing_left c.args.names.now c.loop-name.name-index (omega arith)) c.loop-name.invariant.rest
 
 pub returns-in_err-source-clause-heard : goal.returns-in_err-source-clause-heard
 returns-in_err-source-clause-heard g c =
@@ -77,7 +77,7 @@ returns-in_err-push-clause-heard g c =
     let there = c.as_str-in-loop-name.ensures.value ∙ ap string_bytes c.name-item.is in
     rw (p.1, p.2)
     (so_far_none (λ (v : Vec InMemory Global). ReadsSources c.args.folder.now (filter is_source (map string_bytes c.args.names.now)) (sources_of v)) c.args.folder.now c.args.names.now (c.loop-name.name-index + 1) (sources_of c.loop-name.sources ++ source_of c.in_ok-source.source ∷ []) _ _
-    (so_far_next source_of c.args.folder.now c.args.names.now c.loop-name.name-index c.name-item.result (sources_of c.loop-name.sources) c.in_ok-source.source (g.S.Store.heard c.args.store.now) _ _
+    (so_far_next source_of c.args.folder.now c.args.names.now c.loop-name.name-index c.name-item.result (sources_of c.loop-name.sources) c.in_ok-source.source (g.S.Store.told c.args.store.now).heard _ _
     (omega arith) (sym (ap is_source here) ∙ sym c.if-not-is_source.ensures) (rw there at c.in_ok-source.ensures.name) c.loop-name.invariant.heard c.in_ok-source.ensures.heard))
 
 pub returns-clause-heard : goal.returns-clause-heard
@@ -87,12 +87,12 @@ returns-clause-heard g c =
 pub loop-name-init : goal.loop-name-init
 loop-name-init g c =
     let empty : [] ≡ sources_of c.new-sources.result = sym (ap (map source_of) c.new-sources.ensures.items) in
-    let now = state (g.S.Store.files c.args.store.now) (g.S.Store.asked c.args.store.now) in
+    let now = state (g.S.Store.told c.args.store.now).files (g.S.Store.told c.args.store.now).asked in
     let P : List Source → Type 0 = λ ss. Continues c.args.folder.now c.args.names.now now 0 ss now in
-    let Q : List Source → Type 0 = λ ss. ReadSoFar c.args.folder.now c.args.names.now 0 ss (g.S.Store.heard c.args.store.now) (g.S.Store.heard c.args.store.now) in
+    let Q : List Source → Type 0 = λ ss. ReadSoFar c.args.folder.now c.args.names.now 0 ss (g.S.Store.told c.args.store.now).heard (g.S.Store.told c.args.store.now).heard in
     record {
       files = refl;
-      heard = subst Q empty (so_far_first c.args.folder.now c.args.names.now (g.S.Store.heard c.args.store.now));
+      heard = subst Q empty (so_far_first c.args.folder.now c.args.names.now (g.S.Store.told c.args.store.now).heard);
       count = omega arith;
       rest = subst P empty (continues_first c.args.folder.now c.args.names.now now);
     }

@@ -6,7 +6,7 @@ use Rattle.ui_top.proofs.answers.answer_all.Given as goal
 
 abbrev pub invariant-loop-query : goal.invariant-loop-query
 invariant-loop-query g l = record {
-  written : g.O.Sink.written l.out ≡ more (g.O.Sink.written l.initial.out) (answers l.of (words_of (take l.query-index l.queries)));
+  written : (g.O.Sink.told l.out).written ≡ more (g.O.Sink.told l.initial.out).written (answers l.of (words_of (take l.query-index l.queries)));
   all : l.all ≡ are_answered l.of (words_of (take l.query-index l.queries));
-  count : g.O.Sink.faults l.initial.out ≤ g.O.Sink.faults l.out;
+  count : (g.O.Sink.told l.initial.out).faults ≤ (g.O.Sink.told l.out).faults;
 }

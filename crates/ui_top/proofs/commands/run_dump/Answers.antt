@@ -4,5 +4,5 @@ use Rattle.ui_top.specs.Outcome.{Dump, words_of}
 use Rattle.ui_top.proofs.commands.run_dump.Goals as goal
 
 pub returns : goal.returns
-returns g c = λ input input_faults steps.
-    runs (Dump c.args.path.now (words_of c.args.queries.now)) _ _ c.dump-exported.result _ c.dump-exported.ensures.does c.dump-exported.ensures.stop c.dump-exported.ensures.cause c.dump-exported.ensures.heard c.answer_by.ensures (record { input = refl; input_faults = refl; steps = refl })
+returns g c = λ input steps.
+    runs (Dump c.args.path.now (words_of c.args.queries.now)) _ _ c.dump-exported.result _ c.dump-exported.ensures.does c.dump-exported.ensures.stop c.dump-exported.ensures.cause c.dump-exported.ensures.heard c.answer_by.ensures (record { input = refl; steps = refl })
