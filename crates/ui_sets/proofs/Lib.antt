@@ -1,0 +1,4 @@
+pub mod Bounds
+pub mod Declared
+pub mod Fields
+pub mod Lacking

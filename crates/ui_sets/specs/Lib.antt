@@ -1,0 +1,5 @@
+pub mod Same
+pub mod Needed
+pub mod Sites
+pub mod Methods
+pub mod Reading
