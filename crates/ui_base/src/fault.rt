@@ -28,6 +28,8 @@ pub enum FaultKind {
     TooDeep,
     Outside,
     BadImportPath,
+    // form: what isn't built yet
+    Form,
     // collect
     PackageName,
     Redeclared,

@@ -10,7 +10,7 @@ use Rattle.ui_types.specs.Ty.{Ty}
 use Rattle.ui_const.specs.Kinds.{holds}
 use Rattle.ui_const.specs.Operators.{Answer, operation, unary_operation, shift_operation}
 use Rattle.ui_scopes.specs.Operands.{OperandTree}
-use Rattle.ui_scopes.specs.Same.{same_type}
+use Rattle.ui_types.specs.Same.{same_type}
 use Rattle.ui_scopes.specs.Steps.{Checks}
 use Rattle.ui_scopes.specs.Local.{Names, TypeIn, OperandIn, no_package, Same, same_then, same_ok, same_err, same_if}
 use Rattle.ui_rules.specs.Kinds.{is_untyped, later, suits, is_equality, is_comparison}

@@ -14,7 +14,7 @@ use Rattle.ui_const.specs.Operators.{Answer, operation, unary_operation, shift_o
 use Rattle.ui_const.specs.declared.fault.ConstFault.{ConstFault}
 use Rattle.ui_core.specs.Checked as checked
 use Rattle.ui_scopes.specs.Operands.{OperandTree, value}
-use Rattle.ui_scopes.specs.Same.{same_type}
+use Rattle.ui_types.specs.Same.{same_type}
 use Rattle.ui_scopes.specs.Steps.{Checks, ◌>>=◌, refuse}
 use Rattle.ui_rules.specs.Kinds.{is_untyped, later, suits, is_equality, is_comparison, const_kind}
 

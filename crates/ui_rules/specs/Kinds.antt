@@ -108,6 +108,6 @@ const_kind NotRepresentable = fault.NotRepresentable
 const_kind BadShift = fault.BadShift
 const_kind NoMemory = fault.BadOperand
 
--- A form that isn't taken yet. No rule of checking gives this kind for anything else: only parsing does.
+-- A form that isn't taken yet. No rule of checking gives this kind for anything else.
 abbrev pub not_taken : FaultKind
-not_taken = fault.Outside
+not_taken = fault.Form

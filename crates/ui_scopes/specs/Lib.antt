@@ -4,4 +4,3 @@ pub mod Steps
 pub mod Local
 pub mod Standing
 pub mod Growing
-pub mod Same

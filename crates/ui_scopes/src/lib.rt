@@ -3,12 +3,10 @@
 
 mod faults;
 mod operand;
-mod same;
 mod scope;
 mod types;
 
 pub use faults::{copy_value, refusal, type_refusal};
 pub use operand::{Arg, Operand};
-pub use same::is_identical;
 pub use scope::{Bind, Level, Levels, Meaning, Scope};
 pub use types::{make_type, under_at};

@@ -1,4 +1,3 @@
-pub mod Same
 pub mod Needed
 pub mod Sites
 pub mod Methods

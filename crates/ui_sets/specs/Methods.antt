@@ -5,7 +5,7 @@ use Rattle.ui_types.specs.Ty.{Ty, Tys, iface, no_types, types}
 use Rattle.ui_types.specs.Decls.{DeclTrees}
 use Rattle.ui_sets.specs.declared.fault.SetFault.TheVariants.{Unfit as Unfits}
 use Rattle.ui_sets.specs.declared.fault.Unfit.TheVariants.{NoMethod}
-use Rattle.ui_sets.specs.Same.{same_type}
+use Rattle.ui_types.specs.Same.{same_type}
 use Rattle.ui_sets.specs.Needed.{Needs, ◌>>=◌, needed}
 use Rattle.ui_sets.specs.Sites.{SiteTree, FoundTree, field, method, site, found_at}
 

@@ -13,11 +13,11 @@ ghost use Rattle.ui_sets.specs.declared.fault.Unfit.TheVariants.{NoMethod};
 use crate::fault::{SetFault, Unfit};
 use crate::members::found_at;
 use crate::needed::needed;
-use crate::same::is_identical;
 use crate::site::{Found, Site, site_of};
 use std::alloc::Global;
 use ui_types::{
     Env, Ids, Method, Methods, Name, NoMemory, TypeId, TypeNode, TypeTable, copy_parts,
+    is_identical,
 };
 
 // The fault of a type that lacks a method.

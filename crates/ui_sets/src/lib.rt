@@ -5,7 +5,6 @@ mod fault;
 mod implement;
 mod members;
 mod needed;
-mod same;
 mod site;
 
 pub use fault::{SetFault, Unfit};

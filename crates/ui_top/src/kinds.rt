@@ -26,6 +26,7 @@ pub fn kind_text(kind: FaultKind) -> &'static str
         FaultKind::TooDeep => "TooDeep",
         FaultKind::Outside => "Outside",
         FaultKind::BadImportPath => "BadImportPath",
+        FaultKind::Form => "Form",
         FaultKind::PackageName => "PackageName",
         FaultKind::Redeclared => "Redeclared",
         FaultKind::MainShape => "MainShape",

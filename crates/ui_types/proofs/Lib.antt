@@ -4,3 +4,4 @@ pub mod TableLemmas
 pub mod KeyLemmas
 pub mod SubstLemmas
 pub mod MemoLemmas
+pub mod SameLemmas

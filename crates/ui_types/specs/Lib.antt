@@ -7,6 +7,7 @@ pub mod Trees
 pub mod Entries
 pub mod Made
 pub mod Decls
+pub mod Same
 pub mod Kept
 pub mod Stays
 pub mod Outcome

@@ -11,6 +11,7 @@ mod list_env;
 mod made;
 mod node;
 mod part;
+mod same;
 mod substitute;
 mod table;
 
@@ -24,6 +25,7 @@ pub use node::TypeNode;
 pub use part::{
     Field, Fields, Method, Methods, Part, Term, Terms, copy_parts, parts_with, types_of,
 };
+pub use same::is_identical;
 pub use substitute::intern_within;
 pub use table::TypeTable;
 pub use ui_base::{

@@ -1,9 +1,10 @@
 //! Identity of types.
 ghost use Rattle.std.specs.Prelude.{◌≡◌};
+ghost use Rattle.ui_types.specs.Same.{same_type};
 ghost use Rattle.ui_types.specs.Table.{IsId, tree};
-ghost use Rattle.ui_scopes.specs.Same.{same_type};
 
-use ui_types::{TypeId, TypeTable};
+use crate::id::TypeId;
+use crate::table::TypeTable;
 
 /// Whether two types are identical. Go specification, "Type identity".
 pub fn is_identical(table: &TypeTable, a: TypeId, b: TypeId) -> bool
