@@ -1,0 +1,6 @@
+//! What tests of the grammar mean by its productions, as laws.
+#![tactic(auto)]
+
+mod laws;
+
+pub use laws::lengths_are_expressions;
