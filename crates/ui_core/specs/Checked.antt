@@ -5,6 +5,7 @@ use Rattle.ui_base.specs.declared.name.Name.{Name}
 use Rattle.ui_base.specs.declared.value.Value.{Value}
 use Rattle.ui_base.specs.declared.kind.BinOp.{BinOp}
 use Rattle.ui_base.specs.declared.kind.UnOp.{UnOp}
+use Rattle.ui_core.specs.declared.callee.BuiltinFn.{BuiltinFn}
 use Rattle.ui_core.specs.declared.callee.FuncKey.{FuncKey}
 
 -- what is called, with its type arguments, and whether it is a method of a pointer
@@ -41,7 +42,8 @@ mutual
     -- a method of the type parameter of this number
     param_call : ℕ → Name → ExprOf T → Exprs T → ExprOf T
     value_call : ExprOf T → Exprs T → ExprOf T
-    builtin : ℕ → Option T → Exprs T → ExprOf T
+    -- with the type that it is given
+    builtin : BuiltinFn → Option T → Exprs T → ExprOf T
     assert : T → ExprOf T → ExprOf T
     -- with the truth value that says whether the key is there
     ok_index : ExprOf T → ExprOf T → ExprOf T

@@ -4,3 +4,4 @@ pub mod Mentions
 pub mod MentionLaws
 pub mod View
 pub mod Views
+pub mod Bodies

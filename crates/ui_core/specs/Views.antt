@@ -8,6 +8,7 @@ use Rattle.ui_base.specs.declared.value.Value.{Value}
 use Rattle.ui_base.specs.declared.kind.BinOp.{BinOp}
 use Rattle.ui_base.specs.declared.kind.UnOp.{UnOp}
 use Rattle.ui_types.specs.declared.id.TypeId.{TypeId}
+use Rattle.ui_core.specs.declared.callee.BuiltinFn.{BuiltinFn}
 use Rattle.ui_core.specs.declared.callee.Callee.{Callee}
 use Rattle.ui_core.specs.declared.tree.Expr.{Expr, fold-Expr, fold-roll-Expr}
 use Rattle.ui_core.specs.declared.tree.Expr.TheVariants as ev
@@ -119,7 +120,7 @@ pub view_ValueCall : (a : Expr) (es : List Expr) → view (ev.ValueCall a es) �
 unfolding view stmt_view clause_view body_view
 view_ValueCall a es = ap (fold-Expr (ExprOf TypeId) (StmtOf TypeId) (BodyOf TypeId) (ClauseOf TypeId) layer stmt_layer body_layer clause_layer) (sym (ev.rolls-ValueCall a es)) ∙ fold-roll-Expr (ExprOf TypeId) (StmtOf TypeId) (BodyOf TypeId) (ClauseOf TypeId) layer stmt_layer body_layer clause_layer (Expr-F.ValueCall a es)
 
-pub view_Builtin : (k : ℕ) (t : Option TypeId) (es : List Expr) → view (ev.Builtin k t es) ≡ builtin k t (exprs (map view es))
+pub view_Builtin : (k : BuiltinFn) (t : Option TypeId) (es : List Expr) → view (ev.Builtin k t es) ≡ builtin k t (exprs (map view es))
 unfolding view stmt_view clause_view body_view
 view_Builtin k t es = ap (fold-Expr (ExprOf TypeId) (StmtOf TypeId) (BodyOf TypeId) (ClauseOf TypeId) layer stmt_layer body_layer clause_layer) (sym (ev.rolls-Builtin k t es)) ∙ fold-roll-Expr (ExprOf TypeId) (StmtOf TypeId) (BodyOf TypeId) (ClauseOf TypeId) layer stmt_layer body_layer clause_layer (Expr-F.Builtin k t es)
 

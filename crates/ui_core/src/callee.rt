@@ -3,8 +3,25 @@
 use ui_base::Name;
 use ui_types::Ids;
 
+/// A predeclared function that a checked tree calls. Go specification, "Built-in functions".
+#[derive(Clone, Copy, PartialEq, Eq)]
+pub enum BuiltinFn {
+    Append,
+    /// `append` with `...`: its second argument is a slice or a text.
+    AppendSpread,
+    Cap,
+    Copy,
+    Delete,
+    Len,
+    Make,
+    Max,
+    Min,
+    New,
+    Panic,
+}
+
 /// The name of a function, or of a type and one of its methods.
-#[derive(Drop)]
+#[derive(Drop, PartialEq, Eq, Hash)]
 pub struct FuncKey {
     pub name: Name,
     pub method: Option<Name>,

@@ -5,7 +5,7 @@ ghost use Rattle.ui_core.specs.Checked as checked;
 ghost use Rattle.ui_core.specs.View as seen;
 ghost use Rattle.ui_core.specs.View.{view, stmt_view, body_view, clause_view, field_with, item_with, entry_with, range_with};
 
-use crate::callee::Callee;
+use crate::callee::{BuiltinFn, Callee};
 use crate::tree::{
     Body, Clause, Entry, Expr, Exprs, FieldValue, IndexedValue, Places, Stmt, Stmts,
 };
@@ -189,10 +189,10 @@ impl Expr {
     }
 
     #[tactic(auto, using(crate::specs::Views::view_Builtin))]
-    pub fn builtin(code: u32, ty: Option<TypeId>, args: Exprs) -> Expr
-        ensures { view result ≡ checked.builtin code ty (seen.exprs (map view args)) }
+    pub fn builtin(function: BuiltinFn, ty: Option<TypeId>, args: Exprs) -> Expr
+        ensures { view result ≡ checked.builtin function ty (seen.exprs (map view args)) }
     {
-        Expr::Builtin { code, ty, args }
+        Expr::Builtin { function, ty, args }
     }
 
     #[tactic(auto, using(crate::specs::Views::view_Assert))]

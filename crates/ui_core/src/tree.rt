@@ -1,6 +1,6 @@
 //! Checked expressions, statements and bodies: each conversion, followed pointer and taken address is explicit.
 
-use crate::callee::Callee;
+use crate::callee::{BuiltinFn, Callee};
 use sqlite_items::{Boxed, Items};
 use ui_base::{BinOp, Name, UnOp, Value};
 use ui_types::{Ids, TypeId};
@@ -147,9 +147,9 @@ pub enum Expr {
         of: Boxed<Expr>,
         args: Exprs,
     },
-    /// A predeclared function, by its code.
+    /// A call of a predeclared function, with the type that it is given.
     Builtin {
-        code: u32,
+        function: BuiltinFn,
         ty: Option<TypeId>,
         args: Exprs,
     },
