@@ -12,6 +12,8 @@ count_of : (table : Table) (ids : List TypeId) → length (trees table ids) ≡ 
 count_of table [] = refl
 count_of table (t ∷ ts) = ap (λ n. suc n) (count_of table ts)
 
-pub own_named : (ds : DeclTrees) (table : Table) (n : Name) (args : List TypeId) (t : Ty) → named n (parts table args) ≡ t → own_methods ds t ≡ name_methods ds n (length args)
+pub own_named : (ds : DeclTrees) (table : Table) (n : Name) (args : List TypeId) (t : Ty)
+    → named n (parts table args) ≡ t → own_methods ds t ≡ name_methods ds n (length args)
 own_named ds table n args t e =
-    ap (λ (u : Ty). own_methods ds u) (sym e) ∙ ap (λ k. name_methods ds n k) (ap (λ (ts : List Ty). length ts) (list_of-tys (trees table args)) ∙ count_of table args)
+    ap (λ (u : Ty). own_methods ds u) (sym e) ∙ ap (λ k. name_methods ds n k)
+    (ap (λ (ts : List Ty). length ts) (list_of-tys (trees table args)) ∙ count_of table args)

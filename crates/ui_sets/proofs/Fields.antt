@@ -2,10 +2,11 @@
 use Rattle.std.proofs.Common.{◌≡◌, ◌+◌, ◌≤◌, List, [], ◌∷◌, length, ap, arith}
 use Rattle.std.specs.Prelude.{map}
 use Rattle.ui_types.specs.declared.part.Field.{Field}
-use Rattle.ui_types.specs.Ty.{Ty, basic, named, pointer, slice, array, map_of, func, struct, iface, union, param, size, sizes}
+use Rattle.ui_types.specs.Ty.{Ty, basic, named, pointer, slice, array, map_of, func, struct, iface}
+use Rattle.ui_types.specs.Ty.{union, param, size, sizes}
 use Rattle.ui_types.specs.Table.{Table, tree, parts_by, IsWithinLimits, max_size}
 
-size_some : (t : Ty) → 1 ≤ size t
+pub size_some : (t : Ty) → 1 ≤ size t
 size_some (basic b) = omega arith
 size_some (named n args) = omega arith
 size_some (pointer t) = omega arith
@@ -24,7 +25,9 @@ count_within table (f ∷ fs) =
     let h : length fs ≤ sizes (parts_by (λ f. f.ty) table fs) = count_within table fs in
     let k : 1 ≤ size (tree table f.ty) = size_some (tree table f.ty) in omega arith
 
-pub few_fields : (table : Table) (fs : List Field) (t : Ty) → struct (map (λ f. f.name) fs) (parts_by (λ f. f.ty) table fs) ≡ t → IsWithinLimits t → length fs ≤ max_size
+pub few_fields : (table : Table) (fs : List Field) (t : Ty)
+    → struct (map (λ f. f.name) fs) (parts_by (λ f. f.ty) table fs) ≡ t → IsWithinLimits t
+    → length fs ≤ max_size
 few_fields table fs t e h =
     let k : length fs ≤ sizes (parts_by (λ f. f.ty) table fs) = count_within table fs in
     let s : size t ≤ max_size = h.small in

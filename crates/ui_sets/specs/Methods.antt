@@ -1,5 +1,7 @@
--- Whether a type implements an interface. Go specification, "Implementing an interface", "Method sets".
-use Rattle.std.specs.Prelude.{Bool, true, false, ◌&&◌, ◌||◌, not, List, [], ◌∷◌, Option, Some, None, Ok, Err}
+-- Whether a type implements an interface. Go specification, "Implementing an interface", "Method
+-- sets".
+use Rattle.std.specs.Prelude.{Bool, true, false, ◌&&◌, ◌||◌, not, List, [], ◌∷◌, Option, Some, None}
+use Rattle.std.specs.Prelude.{Ok, Err}
 use Rattle.ui_base.specs.declared.name.Name.{Name}
 use Rattle.ui_types.specs.Ty.{Ty, Tys, iface, no_types, types}
 use Rattle.ui_types.specs.Decls.{DeclTrees}
@@ -9,7 +11,8 @@ use Rattle.ui_types.specs.Same.{same_type}
 use Rattle.ui_sets.specs.Needed.{Needs, ◌>>=◌, needed}
 use Rattle.ui_sets.specs.Sites.{SiteTree, FoundTree, field, method, site, found_at}
 
--- A method of the method set, with this signature: one with a pointer receiver is in the method set of `*T` alone.
+-- A method of the method set, with this signature: one with a pointer receiver is in the method set
+-- of `*T` alone.
 abbrev pub has_method : Option FoundTree → Ty → Bool
 has_method None sig = false
 has_method (Some (field k t through)) sig = false

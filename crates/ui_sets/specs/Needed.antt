@@ -1,11 +1,14 @@
--- One needed type after another, up to the first that is past a limit or the first thing that doesn't fit. This project's own.
-use Rattle.std.specs.Prelude.{◌≡◌, ℕ, List, [], Option, Some, None, Result, Ok, Err, refl, nat_lt, if◌then◌else◌, slice_index_or, false}
+-- One needed type after another, up to the first that is past a limit or the first thing that
+-- doesn't fit. This project's own.
+use Rattle.std.specs.Prelude.{◌≡◌, ℕ, List, [], Option, Some, None, Result, Ok, Err, refl, nat_lt}
+use Rattle.std.specs.Prelude.{if◌then◌else◌, slice_index_or, false}
 use Rattle.ui_types.specs.declared.id.TypeId.{TypeId}
 use Rattle.ui_types.specs.Ty.{Ty, iface, no_types, size, depth}
 use Rattle.ui_types.specs.Table.{Table, IsId, tree, max_size, max_depth}
 use Rattle.ui_types.specs.Decls.{DeclTrees, under}
 use Rattle.ui_sets.specs.declared.fault.SetFault.{SetFault}
-use Rattle.ui_sets.specs.declared.fault.SetFault.TheVariants.{Unfit as Unfits, TooBig, TooDeep, NoMemory}
+use Rattle.ui_sets.specs.declared.fault.SetFault.TheVariants.{Unfit as Unfits, TooBig, TooDeep}
+use Rattle.ui_sets.specs.declared.fault.SetFault.TheVariants.{NoMemory}
 
 -- what a question gives, or why it has no answer
 abbrev pub Needs : Type 0 → Type 0
@@ -31,7 +34,8 @@ needed ds t = within (under ds t)
 abbrev pub any_type : Ty
 any_type = iface [] no_types false no_types
 
--- The constraint of the type parameter of this number; one that has none there has the empty interface.
+-- The constraint of the type parameter of this number; one that has none there has the empty
+-- interface.
 abbrev pub bound_of : List Ty → ℕ → Ty
 bound_of bounds k = slice_index_or bounds k any_type
 
@@ -47,7 +51,8 @@ Refuses want TooBig = want ≡ Some TooBig
 Refuses want TooDeep = want ≡ Some TooDeep
 Refuses want NoMemory = Unit {0}
 
--- the answer is valid and reads as what is wanted, or it is the fault that is wanted, or memory ran out
+-- the answer is valid and reads as what is wanted, or it is the fault that is wanted, or memory ran
+-- out
 abbrev pub Gives : {A B : Type 0} → (B → Type 0) → (B → A) → Needs A → Result B SetFault → Type 0
 Gives Valid see want (Ok x) = Valid x × (want ≡ Ok (see x))
 Gives Valid see want (Err e) = Refuses (fault_of want) e
@@ -61,7 +66,8 @@ Answers want (Ok x) = want ≡ Ok x
 Answers want (Err e) = Refuses (fault_of want) e
 
 -- ---- one call after another
-pub refuses_then : {A B : Type 0} (m : Needs A) (f : A → Needs B) (e : SetFault) → Refuses (fault_of m) e → Refuses (fault_of (m >>= f)) e
+pub refuses_then : {A B : Type 0} (m : Needs A) (f : A → Needs B) (e : SetFault)
+    → Refuses (fault_of m) e → Refuses (fault_of (m >>= f)) e
 refuses_then (Ok x) f (Unfits u) h = cc
 refuses_then (Ok x) f TooBig h = cc
 refuses_then (Ok x) f TooDeep h = cc

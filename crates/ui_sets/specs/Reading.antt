@@ -32,7 +32,13 @@ IsFound table (Field k t through) = IsId table t
 IsFound table (Method m through) = IsId table m.sig
 
 abbrev pub shown_method : Table → MethodFace → MethodTree
-shown_method table m = record { name = m.name; pos = m.pos; pointer = m.pointer; sig = tree table m.sig }
+shown_method table m = record {
+  name = m.name;
+  pos = m.pos;
+  pointer = m.pointer;
+  sig = tree table
+      m.sig;
+}
 
 abbrev pub shown_found : Table → Found → FoundTree
 shown_found table (Field k t through) = field k (tree table t) through
@@ -43,14 +49,23 @@ IfSome-grows : {t u : Table} (o : Option TypeId) → Grows t u → IfSome o (IsI
 IfSome-grows None g h = tt
 IfSome-grows (Some id) g h = IsId-grows id g h
 
-option-grows : {t u : Table} (o : Option TypeId) → Grows t u → IfSome o (IsId t) → option_map (tree u) o ≡ option_map (tree t) o
+option-grows : {t u : Table} (o : Option TypeId) → Grows t u → IfSome o (IsId t)
+    → option_map (tree u) o ≡ option_map (tree t) o
 option-grows None g h = refl
 option-grows (Some id) g h = ap (λ (x : Ty). let o : Option Ty = Some x in o) (g.keeps id h)
 
-methods-grows : {t u : Table} (ms : List MethodFace) → Grows t u → All (λ m. IsId t m.sig) ms → shown_methods u ms ≡ shown_methods t ms
+methods-grows : {t u : Table} (ms : List MethodFace) → Grows t u → All (λ m. IsId t m.sig) ms
+    → shown_methods u ms ≡ shown_methods t ms
 methods-grows [] g h = refl
 methods-grows {t} {u} (m ∷ ms) g h =
-    λ i. (record { name = m.name; pos = m.pos; pointer = m.pointer; sig = g.keeps m.sig (All-head (λ (n : MethodFace). IsId t n.sig) m ms h) i }) ∷ methods-grows ms g (All-tail (λ (n : MethodFace). IsId t n.sig) m ms h) i
+    λ i. (record {
+      name = m.name;
+      pos = m.pos;
+      pointer = m.pointer;
+      sig = g.keeps m.sig
+          (All-head (λ (n : MethodFace). IsId t n.sig) m ms h) i;
+    }) ∷ methods-grows ms g
+    (All-tail (λ (n : MethodFace). IsId t n.sig) m ms h) i
 
 pub IsSite-grows : {t u : Table} (s : Site) → Grows t u → IsSite t s → IsSite u s
 IsSite-grows s g h = record {
@@ -59,7 +74,8 @@ IsSite-grows s g h = record {
   args = AreIds-grows s.args g h.args;
 }
 
-pub shown_site-grows : {t u : Table} (s : Site) → Grows t u → IsSite t s → shown_site u s ≡ shown_site t s
+pub shown_site-grows : {t u : Table} (s : Site) → Grows t u → IsSite t s → shown_site u s
+    ≡ shown_site t s
 shown_site-grows s g h = λ i. record {
   shape = option-grows s.shape g h.shape i;
   methods = methods-grows s.methods g h.methods i;

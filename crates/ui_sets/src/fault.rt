@@ -7,8 +7,8 @@ ghost use Rattle.ui_sets.specs.declared.fault.SetFault.TheVariants.{NoMemory};
 use std::alloc::AllocError;
 use ui_types::{Name, TypeFault};
 
-/// Why a type doesn't satisfy a constraint or implement an interface: the first thing that it lacks. Go specification,
-/// "Implementing an interface", "Satisfying a type constraint".
+/// Why a type doesn't satisfy a constraint or implement an interface: the first thing that it
+/// lacks. Go specification, "Implementing an interface", "Satisfying a type constraint".
 #[derive(Debug, Drop)]
 pub enum Unfit {
     /// It has no method of this name and signature.

@@ -1,13 +1,14 @@
-//! What a type has and satisfies: fields and methods, interfaces, unions and core types.
+//! What a type has: fields and methods, and the interfaces that it implements.
 #![tactic(auto, using(ui_types::specs::Trees::growth, ui_types::specs::Kept::keeping, crate::specs::Needed::stepping))]
 
 mod fault;
 mod implement;
 mod members;
-mod needed;
+mod needs;
 mod site;
 
 pub use fault::{SetFault, Unfit};
-pub use implement::implements;
+pub use implement::{implements, listed_fit};
 pub use members::lookup;
-pub use site::Found;
+pub use needs::{needed, needed_bound};
+pub use site::{Found, number_of};

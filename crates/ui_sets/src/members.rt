@@ -1,15 +1,17 @@
 //! Looking a name up.
-ghost use Rattle.std.specs.Prelude.{◌≡◌, ◌≤◌, [], All, IfOk, IfSome, false, length, map, option_map};
+ghost use Rattle.std.specs.Prelude.{◌≡◌, ◌≤◌, [], All, IfOk, IfSome, false, length, map};
+ghost use Rattle.std.specs.Prelude.{option_map};
 ghost use Rattle.ui_types.specs.Table.{IsId, AreIds, Grows, max_size, parts_by, tree, trees};
 ghost use Rattle.ui_types.specs.Decls.{shown_methods};
 ghost use Rattle.ui_types.specs.Kept.{Kept};
 ghost use Rattle.ui_sets.specs.Needed.{Gives};
 ghost use Rattle.ui_sets.specs.Sites as want;
-ghost use Rattle.ui_sets.specs.Sites.{in_shape, in_shapes, listed, method, find_field, find_listed, find_method};
+ghost use Rattle.ui_sets.specs.Sites.{in_shape, in_shapes, listed, method, find_field, find_listed};
+ghost use Rattle.ui_sets.specs.Sites.{find_method};
 ghost use Rattle.ui_sets.specs.Reading.{IsFound, IsSite, shown_found, shown_method, shown_site};
 
 use crate::fault::SetFault;
-use crate::needed::instance;
+use crate::needs::instance;
 use crate::site::{Found, Site, site_of};
 use std::alloc::Global;
 use ui_types::{
@@ -22,7 +24,9 @@ fn find_field(table: &TypeTable, fields: &[Field], name: &Name, through: bool) -
     requires valid { All (λ f. IsId table.now f.ty) fields.now }
     requires count { length fields.now ≤ max_size }
     ensures valid { IfSome result (IsFound table.now) }
-    ensures answer { option_map (shown_found table.now) result ≡ find_field 0 (map (λ f. f.name) fields.now) (parts_by (λ f. f.ty) table.now fields.now) name.now through }
+    ensures answer { option_map (shown_found table.now) result
+        ≡ find_field 0 (map (λ f. f.name) fields.now) (parts_by (λ f. f.ty) table.now fields.now)
+        name.now through }
 {
     let _ = table;
     for (k, field) in fields.iter().enumerate() {
@@ -41,7 +45,8 @@ fn find_field(table: &TypeTable, fields: &[Field], name: &Name, through: bool) -
 fn find_listed(table: &TypeTable, methods: &[Method], name: &Name) -> Option<TypeId>
     requires valid { All (λ m. IsId table.now m.sig) methods.now }
     ensures valid { IfSome result (IsId table.now) }
-    ensures answer { option_map (tree table.now) result ≡ find_listed (map (λ m. m.name) methods.now) (parts_by (λ m. m.sig) table.now methods.now) name.now }
+    ensures answer { option_map (tree table.now) result ≡ find_listed
+        (map (λ m. m.name) methods.now) (parts_by (λ m. m.sig) table.now methods.now) name.now }
 {
     let _ = table;
     for method in methods {
@@ -54,7 +59,13 @@ fn find_listed(table: &TypeTable, methods: &[Method], name: &Name) -> Option<Typ
 
 // A method of an interface, which stands nowhere.
 fn listed(alloc: Global, name: &Name, sig: TypeId) -> Result<MethodFace, NoMemory>
-    ensures { IfOk result (λ m. m ≡ record { name = name.now; pos = record { file = []; line = 0; col = 0 }; pointer = false; sig = sig }) }
+    ensures { IfOk result (λ m. m ≡ record {
+      name = name.now;
+      pos = record
+          { file = []; line = 0; col = 0 };
+      pointer = false;
+      sig = sig;
+    }) }
 {
     let name = name.copy(alloc)?;
     let pos = Pos {
@@ -79,7 +90,10 @@ fn listed_method(
 ) -> Result<Option<Found>, NoMemory>
     requires valid { All (λ m. IsId table.now m.sig) methods.now }
     ensures valid { IfOk result (λ found. IfSome found (IsFound table.now)) }
-    ensures answer { IfOk result (λ found. option_map (shown_found table.now) found ≡ option_map (λ sig. method (listed name.now sig) false) (find_listed (map (λ m. m.name) methods.now) (parts_by (λ m. m.sig) table.now methods.now) name.now)) }
+    ensures answer { IfOk result (λ found. option_map (shown_found table.now) found
+        ≡ option_map (λ sig. method (listed name.now sig) false)
+        (find_listed (map (λ m. m.name) methods.now) (parts_by (λ m. m.sig) table.now methods.now)
+        name.now)) }
 {
     match find_listed(table, methods, name) {
         Some(sig) => {
@@ -104,7 +118,8 @@ fn in_shape(
 ) -> Result<Option<Found>, NoMemory>
     requires { IsId table.now shape }
     ensures valid { IfOk result (λ found. IfSome found (IsFound table.now)) }
-    ensures answer { IfOk result (λ found. option_map (shown_found table.now) found ≡ in_shape (tree table.now shape) name.now through) }
+    ensures answer { IfOk result (λ found. option_map (shown_found table.now) found
+        ≡ in_shape (tree table.now shape) name.now through) }
 {
     match table.node(shape) {
         TypeNode::Struct(fields) => Ok(find_field(table, fields.items(), name, through)),
@@ -127,7 +142,8 @@ fn in_shapes(
 ) -> Result<Option<Found>, NoMemory>
     requires { IfSome shape (IsId table.now) }
     ensures valid { IfOk result (λ found. IfSome found (IsFound table.now)) }
-    ensures answer { IfOk result (λ found. option_map (shown_found table.now) found ≡ in_shapes (option_map (tree table.now) shape) name.now through) }
+    ensures answer { IfOk result (λ found. option_map (shown_found table.now) found
+        ≡ in_shapes (option_map (tree table.now) shape) name.now through) }
 {
     match shape {
         Some(shape) => in_shape(alloc, table, shape, name, through),
@@ -143,7 +159,8 @@ fn find_method<'a>(
 ) -> Option<&'a MethodFace>
     requires valid { All (λ m. IsId table.now m.sig) methods.now }
     ensures valid { IfSome result (λ m. IsId table.now m.now.sig) }
-    ensures answer { option_map (λ m. shown_method table.now m.now) result ≡ find_method (shown_methods table.now methods.now) name.now }
+    ensures answer { option_map (λ m. shown_method table.now m.now) result
+        ≡ find_method (shown_methods table.now methods.now) name.now }
 {
     let _ = table;
     for method in methods {
@@ -162,8 +179,10 @@ fn method_with(
     name: &Name,
 ) -> Result<Option<Found>, SetFault>
     requires { IsSite table.old site.now }
-    ensures answer { Gives (λ found. IfSome found (IsFound table.new)) (option_map (shown_found table.new))
-        (want.method_with (trees table.old site.now.args) site.now.through (find_method (shown_methods table.old site.now.methods) name.now)) result }
+    ensures answer { Gives (λ found. IfSome found (IsFound table.new))
+        (option_map (shown_found table.new))
+        (want.method_with (trees table.old site.now.args) site.now.through
+        (find_method (shown_methods table.old site.now.methods) name.now)) result }
     ensures grows { Grows table.old table.new }
 {
     match find_method(table, site.methods.items(), name) {
@@ -187,7 +206,9 @@ pub(crate) fn found_at(
     name: &Name,
 ) -> Result<Option<Found>, SetFault>
     requires { IsSite table.old site.now }
-    ensures answer { Gives (λ found. IfSome found (IsFound table.new)) (option_map (shown_found table.new)) (want.found_at (shown_site table.old site.now) name.now) result }
+    ensures answer { Gives (λ found. IfSome found (IsFound table.new))
+        (option_map (shown_found table.new)) (want.found_at (shown_site table.old site.now)
+        name.now) result }
     ensures grows { Grows table.old table.new }
 {
     let found = in_shapes(alloc, table, site.shape, name, site.through)?;
@@ -197,11 +218,11 @@ pub(crate) fn found_at(
     method_with(alloc, table, site, name)
 }
 
-/// The field or the method of a type with this name, with a pointer followed where the type is one: a field before a
-/// method. A method with a pointer receiver is found for the type itself too. `bounds` are the constraints of the type
-/// parameters in scope, by number; one that has none there has the empty interface. It is refused exactly where the
-/// underlying type of the type or of what it points to, or the signature found, is past a limit. Go specification,
-/// "Selectors".
+/// The field or the method of a type with this name, with a pointer followed where the type is one:
+/// a field before a method. A method with a pointer receiver is found for the type itself too.
+/// `bounds` are the constraints of the type parameters in scope, by number; one that has none there
+/// has the empty interface. It is refused exactly where the underlying type of the type or of what
+/// it points to, or the signature found, is past a limit. Go specification, "Selectors".
 pub fn lookup<E: Env>(
     alloc: Global,
     env: &mut E,
@@ -213,7 +234,9 @@ pub fn lookup<E: Env>(
     requires env { E.fits env.old table.old }
     requires bounds { AreIds table.old bounds.now }
     requires id { IsId table.old t }
-    ensures answer { Gives (λ found. IfSome found (IsFound table.new)) (option_map (shown_found table.new)) (want.lookup (E.decls env.old table.old) (trees table.old bounds.now) (tree table.old t) name.now) result }
+    ensures answer { Gives (λ found. IfSome found (IsFound table.new))
+        (option_map (shown_found table.new)) (want.lookup (E.decls env.old table.old)
+        (trees table.old bounds.now) (tree table.old t) name.now) result }
     ensures kept { Kept E.packages E.lent E.decls E.fits env.old table.old env.new table.new }
 {
     let site = site_of(alloc, env, table, bounds.items(), t)?;

@@ -1,16 +1,19 @@
 //! Where the fields and methods of a type are.
-ghost use Rattle.std.specs.Prelude.{◌≡◌, List, [], All, IfOk, IfSome, Some, None, option_map, true, if◌then◌else◌};
+ghost use Rattle.std.specs.Prelude.{◌≡◌, List, [], All, IfOk, IfSome, Some, None, option_map, true};
+ghost use Rattle.std.specs.Prelude.{if◌then◌else◌};
 ghost use Rattle.ui_types.specs.Ty.{param};
 ghost use Rattle.ui_types.specs.Table.{Table, IsId, AreIds, tree, trees};
-ghost use Rattle.ui_types.specs.Decls.{MethodTree, IsDecl, shown_decl, shown_methods, error_name, name_eq};
+ghost use Rattle.ui_types.specs.Decls.{MethodTree, IsDecl, shown_decl, shown_methods, error_name};
+ghost use Rattle.ui_types.specs.Decls.{name_eq};
 ghost use Rattle.ui_types.specs.Kept.{Kept};
 ghost use Rattle.ui_sets.specs.Needed.{Gives};
 ghost use Rattle.ui_sets.specs.Sites as want;
-ghost use Rattle.ui_sets.specs.Sites.{args_of, counted, elem_of, fields_of, is_pointer, listed_of, number_of, decl_methods, name_methods, own_methods};
+ghost use Rattle.ui_sets.specs.Sites.{args_of, counted, elem_of, fields_of, is_pointer, listed_of};
+ghost use Rattle.ui_sets.specs.Sites.{number_of, decl_methods, name_methods, own_methods};
 ghost use Rattle.ui_sets.specs.Reading.{IsSite, shown_site};
 
 use crate::fault::SetFault;
-use crate::needed::{needed, needed_bound};
+use crate::needs::{needed, needed_bound};
 use std::alloc::Global;
 use ui_types::{
     Decl, Env, Face, Ids, MethodFace, MethodFaces, Name, NoMemory, TypeId, TypeNode, TypeTable,
@@ -26,16 +29,17 @@ pub enum Found {
         ty: TypeId,
         through: bool,
     },
-    /// A method, with the type arguments put in, and whether a pointer is followed. That of an interface or a type
-    /// parameter has no pointer receiver, and stands in the empty file at line 0 and column 0.
+    /// A method, with the type arguments put in, and whether a pointer is followed. That of an
+    /// interface or a type parameter has no pointer receiver, and stands in the empty file at line
+    /// 0 and column 0.
     Method {
         face: MethodFace,
         through: bool,
     },
 }
 
-/// Where a name is looked up: the struct or the interface, the methods of the defined type with its type arguments, and
-/// whether a pointer is followed.
+/// Where a name is looked up: the struct or the interface, the methods of the defined type with its
+/// type arguments, and whether a pointer is followed.
 #[derive(Drop)]
 pub(crate) struct Site {
     pub shape: Option<TypeId>,
@@ -63,8 +67,11 @@ fn declared_methods(
     decl: &Option<Decl>,
     count: usize,
 ) -> Result<MethodFaces, NoMemory>
-    ensures methods { (table : Table) → IfSome decl.now (IsDecl table) → IfOk result (λ ms. shown_methods table ms ≡ decl_methods (option_map (shown_decl table) decl.now) count) }
-    ensures valid { (table : Table) → IfSome decl.now (IsDecl table) → IfOk result (All (λ m. IsId table m.sig)) }
+    ensures methods { (table : Table) → IfSome decl.now (IsDecl table)
+        → IfOk result (λ ms. shown_methods table ms ≡ decl_methods
+        (option_map (shown_decl table) decl.now) count) }
+    ensures valid { (table : Table) → IfSome decl.now (IsDecl table)
+        → IfOk result (All (λ m. IsId table m.sig)) }
 {
     if let Some(decl) = decl {
         if let Face::Defined {
@@ -91,7 +98,8 @@ fn name_methods<E: Env>(
     count: usize,
 ) -> Result<MethodFaces, NoMemory>
     requires env { E.fits env.old table.old }
-    ensures answer { IfOk result (λ ms. shown_methods table.new ms ≡ name_methods (E.decls env.old table.old) name.now count) }
+    ensures answer { IfOk result (λ ms. shown_methods table.new ms
+        ≡ name_methods (E.decls env.old table.old) name.now count) }
     ensures valid { IfOk result (All (λ m. IsId table.new m.sig)) }
     ensures kept { Kept E.packages E.lent E.decls E.fits env.old table.old env.new table.new }
 {
@@ -125,7 +133,8 @@ fn own_methods<E: Env>(
 ) -> Result<MethodFaces, NoMemory>
     requires env { E.fits env.old table.old }
     requires id { IsId table.old t }
-    ensures answer { IfOk result (λ ms. shown_methods table.new ms ≡ own_methods (E.decls env.old table.old) (tree table.old t)) }
+    ensures answer { IfOk result (λ ms. shown_methods table.new ms
+        ≡ own_methods (E.decls env.old table.old) (tree table.old t)) }
     ensures valid { IfOk result (All (λ m. IsId table.new m.sig)) }
     ensures kept { Kept E.packages E.lent E.decls E.fits env.old table.old env.new table.new }
 {
@@ -140,7 +149,8 @@ fn own_methods<E: Env>(
 // Whether the methods of a defined type with this underlying type count.
 fn are_counted(table: &TypeTable, under: TypeId) -> bool
     requires { IsId table.now under }
-    ensures { (ms : List MethodTree) → counted (tree table.now under) ms ≡ (if result then ms else []) }
+    ensures { (ms : List MethodTree) → counted (tree table.now under) ms
+        ≡ (if result then ms else []) }
 {
     !matches!(
         table.node(under),
@@ -193,7 +203,7 @@ fn is_pointer(table: &TypeTable, t: TypeId) -> bool
 }
 
 /// Its number, where it is a type parameter.
-pub(crate) fn number_of(table: &TypeTable, t: TypeId) -> Option<u32>
+pub fn number_of(table: &TypeTable, t: TypeId) -> Option<u32>
     requires { IsId table.now t }
     ensures { result ≡ number_of (tree table.now t) }
 {
@@ -215,7 +225,9 @@ fn counted_methods<E: Env>(
     requires env { E.fits env.old table.old }
     requires id { IsId table.old t }
     requires under { IsId table.old under }
-    ensures answer { IfOk result (λ ms. shown_methods table.new ms ≡ (if are_asked then counted (tree table.old under) (own_methods (E.decls env.old table.old) (tree table.old t)) else [])) }
+    ensures answer { IfOk result (λ ms. shown_methods table.new ms
+        ≡ (if are_asked then counted (tree table.old under)
+        (own_methods (E.decls env.old table.old) (tree table.old t)) else [])) }
     ensures valid { IfOk result (All (λ m. IsId table.new m.sig)) }
     ensures kept { Kept E.packages E.lent E.decls E.fits env.old table.old env.new table.new }
 {
@@ -235,7 +247,8 @@ fn pointed_site<E: Env>(
 ) -> Result<Site, SetFault>
     requires env { E.fits env.old table.old }
     requires id { IsId table.old t }
-    ensures answer { Gives (IsSite table.new) (shown_site table.new) (want.pointed_site (E.decls env.old table.old) is_itself (tree table.old t)) result }
+    ensures answer { Gives (IsSite table.new) (shown_site table.new)
+        (want.pointed_site (E.decls env.old table.old) is_itself (tree table.old t)) result }
     ensures kept { Kept E.packages E.lent E.decls E.fits env.old table.old env.new table.new }
 {
     let under = needed(alloc, env, table, t)?;
@@ -260,7 +273,9 @@ fn value_site<E: Env>(
     requires env { E.fits env.old table.old }
     requires id { IsId table.old t }
     requires under { IsId table.old under }
-    ensures answer { Gives (IsSite table.new) (shown_site table.new) (want.under_site (E.decls env.old table.old) (tree table.old t) (tree table.old under) None) result }
+    ensures answer { Gives (IsSite table.new) (shown_site table.new)
+        (want.under_site (E.decls env.old table.old) (tree table.old t) (tree table.old under) None)
+        result }
     ensures kept { Kept E.packages E.lent E.decls E.fits env.old table.old env.new table.new }
 {
     let methods = counted_methods(alloc, env, table, true, t, under)?;
@@ -282,7 +297,8 @@ fn plain_site<E: Env>(
 ) -> Result<Site, SetFault>
     requires env { E.fits env.old table.old }
     requires id { IsId table.old t }
-    ensures answer { Gives (IsSite table.new) (shown_site table.new) (want.numbered_site (E.decls env.old table.old) [] (tree table.old t) None) result }
+    ensures answer { Gives (IsSite table.new) (shown_site table.new)
+        (want.numbered_site (E.decls env.old table.old) [] (tree table.old t) None) result }
     ensures kept { Kept E.packages E.lent E.decls E.fits env.old table.old env.new table.new }
 {
     let under = needed(alloc, env, table, t)?;
@@ -305,7 +321,9 @@ fn param_site<E: Env>(
 ) -> Result<Site, SetFault>
     requires env { E.fits env.old table.old }
     requires bounds { AreIds table.old bounds.now }
-    ensures answer { Gives (IsSite table.new) (shown_site table.new) (want.numbered_site (E.decls env.old table.old) (trees table.old bounds.now) (param k) (Some k)) result }
+    ensures answer { Gives (IsSite table.new) (shown_site table.new)
+        (want.numbered_site (E.decls env.old table.old) (trees table.old bounds.now) (param k)
+        (Some k)) result }
     ensures kept { Kept E.packages E.lent E.decls E.fits env.old table.old env.new table.new }
 {
     let under = needed_bound(alloc, env, table, bounds, k)?;
@@ -328,7 +346,9 @@ pub(crate) fn site_of<E: Env>(
     requires env { E.fits env.old table.old }
     requires bounds { AreIds table.old bounds.now }
     requires id { IsId table.old t }
-    ensures answer { Gives (IsSite table.new) (shown_site table.new) (want.site (E.decls env.old table.old) (trees table.old bounds.now) (tree table.old t)) result }
+    ensures answer { Gives (IsSite table.new) (shown_site table.new)
+        (want.site (E.decls env.old table.old) (trees table.old bounds.now) (tree table.old t))
+        result }
     ensures kept { Kept E.packages E.lent E.decls E.fits env.old table.old env.new table.new }
 {
     match number_of(table, t) {

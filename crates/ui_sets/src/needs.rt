@@ -12,9 +12,10 @@ use ui_types::{
     Env, Ids, Methods, NoMemory, TypeId, TypeNode, TypeTable, intern_within, underlying,
 };
 
-/// The underlying type.
+/// The underlying type, which is refused where it is past a limit. Go specification, "Underlying
+/// types".
 #[tactic(auto, using(ui_types::specs::Kept::keeping), unfolding(crate::specs::Needed::within))]
-pub(crate) fn needed<E: Env>(
+pub fn needed<E: Env>(
     alloc: Global,
     env: &mut E,
     table: &mut TypeTable,
@@ -22,7 +23,8 @@ pub(crate) fn needed<E: Env>(
 ) -> Result<TypeId, SetFault>
     requires env { E.fits env.old table.old }
     requires id { IsId table.old t }
-    ensures answer { GivesType table.new (want.needed (E.decls env.old table.old) (tree table.old t)) result }
+    ensures answer { GivesType table.new (want.needed (E.decls env.old table.old)
+        (tree table.old t)) result }
     ensures kept { Kept E.packages E.lent E.decls E.fits env.old table.old env.new table.new }
 {
     match underlying(alloc, env, table, t) {
@@ -41,7 +43,8 @@ pub(crate) fn instance(
 ) -> Result<TypeId, SetFault>
     requires id { IsId table.old t }
     requires arguments { AreIds table.old args.now }
-    ensures answer { GivesType table.new (within (subst (trees table.old args.now) (tree table.old t))) result }
+    ensures answer { GivesType table.new
+        (within (subst (trees table.old args.now) (tree table.old t))) result }
     ensures grows { Grows table.old table.new }
 {
     match table.subst(alloc, t, args) {
@@ -74,8 +77,9 @@ fn no_bound(alloc: Global, table: &mut TypeTable) -> Result<TypeId, SetFault>
     }
 }
 
-/// The underlying type of a type parameter's constraint, by its number.
-pub(crate) fn needed_bound<E: Env>(
+/// The underlying type of a type parameter's constraint, by its number. One that has none there has
+/// the empty interface.
+pub fn needed_bound<E: Env>(
     alloc: Global,
     env: &mut E,
     table: &mut TypeTable,
@@ -84,7 +88,8 @@ pub(crate) fn needed_bound<E: Env>(
 ) -> Result<TypeId, SetFault>
     requires env { E.fits env.old table.old }
     requires bounds { AreIds table.old bounds.now }
-    ensures answer { GivesType table.new (want.needed (E.decls env.old table.old) (bound_of (trees table.old bounds.now) k)) result }
+    ensures answer { GivesType table.new (want.needed (E.decls env.old table.old)
+        (bound_of (trees table.old bounds.now) k)) result }
     ensures kept { Kept E.packages E.lent E.decls E.fits env.old table.old env.new table.new }
 {
     let k = k as usize;
