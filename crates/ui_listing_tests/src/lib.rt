@@ -1,0 +1,5 @@
+//! Tests of the lines of a container.
+#![tactic(auto)]
+
+#[cfg(test)]
+mod listed;
