@@ -1,1 +1,6 @@
+mod WayBack
 mod LengthTexts
+mod Matched
+mod Parted
+mod TagsOnly
+mod TagsStand

@@ -3,4 +3,4 @@
 
 mod laws;
 
-pub use laws::lengths_are_expressions;
+pub use laws::{lengths_are_expressions, tags_stand_behind_fields};
