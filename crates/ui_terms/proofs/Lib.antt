@@ -1,0 +1,3 @@
+pub mod EachLoop
+pub mod Count
+pub mod Inside
