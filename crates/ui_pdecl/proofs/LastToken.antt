@@ -6,7 +6,7 @@ use Rattle.ui_scan.specs.declared.kind.Token.{Token}
 use Rattle.ui_scan.specs.declared.kind.TokenKind.{TokenKind}
 use Rattle.ui_scan.specs.declared.kind.TokenKind.TheVariants.{Semi, End}
 use Rattle.ui_scan.specs.declared.place.Place.{Place}
-use Rattle.ui_scan.specs.Table.{Entry, keywords, operators, spelled}
+use Rattle.ui_scan.specs.Table.{Row, keywords, operators, spelled}
 use Rattle.ui_scan.specs.Language.{IsToken, identifier, keyword, operator, int, rune, string, raw_string}
 use Rattle.ui_scan.specs.Scan.{token_between, due_after}
 use Rattle.ui_scan.specs.Tokens.{place_at, IsLexeme, AreWords, ends_line, semicolon_before, with_semicolons, Tokens}
@@ -18,7 +18,7 @@ use Rattle.ui_pexpr.specs.BackLaws.{kind_of_token}
 
 -- ---- no text spells it
 
-abbrev no_ends : List Entry → Bool
+abbrev no_ends : List Row → Bool
 no_ends [] = true
 no_ends (e ∷ es) = cond (is_kind e.1 End) false (no_ends es)
 
@@ -30,7 +30,7 @@ step true false l o rest is fine h go =
     absurd cc
 step false false l o rest is fine h go = go fine h
 
-not_spelled : (table : List Entry) (text : List ℕ) → no_ends table ≡ true → spelled table text ≡ Some End → ⊥
+not_spelled : (table : List Row) (text : List ℕ) → no_ends table ≡ true → spelled table text ≡ Some End → ⊥
 not_spelled [] text fine h = absurd cc
 not_spelled (e ∷ es) text fine h = step (bytes_eq e.0 text) (is_kind e.1 End) e.1 (spelled es text) (no_ends es) refl fine h (not_spelled es text)
 

@@ -27,17 +27,17 @@ left_fault : {A X : Type 0} (see : X → A) (o : Outcome A) (left : List Word) �
 left_fault see (Ok p) left h = absurd h
 left_fault see (Err ws) left h = h
 
-module _ (ws left : List Word) (k budget : ℕ) (wide : budget ≡ 200 + 8 * (k + 1) + 16) where
-  same : whole_file (budget - 1) (take (k + 1) ws) ≡ whole_file (199 + enough (suc k)) (take (suc k) ws)
-  same = let e : budget - 1 ≡ 199 + enough (suc k) = omega (arith, wide) in let f : k + 1 ≡ suc k = omega arith in rw (e, f) refl
+module _ (ws left : List Word) (k room : ℕ) (wide : room ≡ 199 + 8 * (k + 1) + 16) where
+  same : whole_file room (take (k + 1) ws) ≡ whole_file (199 + enough (suc k)) (take (suc k) ws)
+  same = let e : room ≡ 199 + enough (suc k) = omega (arith, wide) in let f : k + 1 ≡ suc k = omega arith in rw (e, f) refl
 
-  told_by : left ≡ rest_of (whole_file (budget - 1) (take (k + 1) ws)) → nat_eq (length left) 0 ≡ reads_farther ws k
+  told_by : left ≡ rest_of (whole_file room (take (k + 1) ws)) → nat_eq (length left) 0 ≡ reads_farther ws k
   told_by e = none_is left ∙ ap none_left (e ∙ ap rest_of same)
 
-  pub farther_ok : (x : FileBody) → Reads see_file (whole_file (budget - 1) (take (k + 1) ws)) (Ok x) left → nat_eq (length left) 0 ≡ reads_farther ws k
+  pub farther_ok : (x : FileBody) → Reads see_file (whole_file room (take (k + 1) ws)) (Ok x) left → nat_eq (length left) 0 ≡ reads_farther ws k
   farther_ok x h = told_by (left_ok see_file _ x left h)
 
-  pub farther_fault : Reads see_file (whole_file (budget - 1) (take (k + 1) ws)) (Err Fault) left → nat_eq (length left) 0 ≡ reads_farther ws k
+  pub farther_fault : Reads see_file (whole_file room (take (k + 1) ws)) (Err Fault) left → nat_eq (length left) 0 ≡ reads_farther ws k
   farther_fault h = told_by (left_fault see_file _ left h)
 
 -- ---- the result of a whole file

@@ -1,7 +1,5 @@
 -- Two readings of a type specification, side by side.
-use Rattle.std.proofs.Common.{◌≡◌, ℕ, ◌-◌, ◌≤◌, Bool, true, cond, List, Result, sym, ap, subst, arith}
-use Rattle.std.specs.Prelude.{nat_le}
-use Rattle.std.proofs.lemmas.Bool.{le-leb}
+use Rattle.std.proofs.Common.{◌≡◌, ℕ, Bool, cond, List, Result, sym, ap, subst}
 use Rattle.ui_base.specs.declared.value.Spot.{Spot}
 use Rattle.ui_grammar.specs.Word.{Word}
 use Rattle.ui_tree.specs.declared.part.Placed.{Placed}
@@ -13,19 +11,19 @@ use Rattle.ui_parse.specs.View.{Reads}
 use Rattle.ui_stmts.specs.Common.{Sized}
 use Rattle.ui_stmts.specs.Decls.{farther, bracketed_group, generic_group}
 use Rattle.ui_tree.specs.Stmt.{TypeGroup}
+use Rattle.ui_ptype.specs.Branches.{some_room}
 use Rattle.ui_psimple.specs.declared.deep.Deep.{Deep}
 use Rattle.ui_psimple.specs.Seen.{see_deep}
 use Rattle.ui_pdecl.specs.Parts.{farther_of, bracketed}
 
-by_two : (b : ℕ) (p : Placed) (s : Spot) (ws : List Word) → 2 ≤ b → farther_of (bracketed_group (b - 1) p s ws) (generic_group (b - 1) p ws) ≡ bracketed (b - 1) p s ws
+by_two : (room : ℕ) (p : Placed) (s : Spot) (ws : List Word) → (room ≡ 0 → ⊥) → farther_of (bracketed_group room p s ws) (generic_group room p ws) ≡ bracketed room p s ws
 unfolding farther
-by_two b p s ws le =
-    let room : nat_le 1 (b - 1) ≡ true = le-leb _ _ (omega arith) in
-    sym (ap (λ (t : Bool). cond t (farther (bracketed_group (b - 1) p s) (generic_group (b - 1) p)) (generic_group (b - 1) p) ws) room)
+by_two room p s ws some =
+    sym (ap (λ (t : Bool). cond t (farther (bracketed_group room p s) (generic_group room p)) (generic_group room p) ws) (some_room room some))
 
-pub two_readings : (b : ℕ) (p : Placed) (s : Spot) (ws : List Word) (r : Result (Deep TypeSpec) ParseError) (left : List Word) → 2 ≤ b
-    → Reads (see_deep type_spec_view) (farther_of (bracketed_group (b - 1) p s ws) (generic_group (b - 1) p ws)) r left → Reads (see_deep type_spec_view) (bracketed (b - 1) p s ws) r left
-two_readings b p s ws r left le h = subst (λ (o : Outcome (Sized TypeGroup)). Reads (see_deep type_spec_view) o r left) (by_two b p s ws le) h
+pub two_readings : (room : ℕ) (p : Placed) (s : Spot) (ws : List Word) (r : Result (Deep TypeSpec) ParseError) (left : List Word) → (room ≡ 0 → ⊥)
+    → Reads (see_deep type_spec_view) (farther_of (bracketed_group room p s ws) (generic_group room p ws)) r left → Reads (see_deep type_spec_view) (bracketed room p s ws) r left
+two_readings room p s ws r left some h = subst (λ (o : Outcome (Sized TypeGroup)). Reads (see_deep type_spec_view) o r left) (by_two room p s ws some) h
 
 -- a second reading at the same words, with a copy of the name
 pub read_again : (room : ℕ) (p q : Placed) (ws us : List Word) (r : Result (Deep TypeSpec) ParseError) (left : List Word) → q ≡ p → us ≡ ws

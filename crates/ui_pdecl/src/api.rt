@@ -18,8 +18,8 @@ use ui_pexpr::ParseFault;
 use ui_scan::Token;
 use ui_tree::FileTree;
 
-/// The greatest depth of a file.
-const DEEPEST: u32 = 200;
+/// The greatest depth of what stands in a declaration, so that no file is deeper than 200.
+const ROOM: u32 = 199;
 
 // The fault behind the first so many words.
 fn file_fault(alloc: Global, bytes: &[u8], tokens: &[Token], count: usize) -> ParseFault
@@ -82,7 +82,7 @@ pub fn parse_file(
     ensures name { IfOk result (λ t. t.file ≡ file.now) }
 {
     let mut words = Cursor::new(bytes, tokens);
-    match whole_file(alloc, &mut words, DEEPEST) {
+    match whole_file(alloc, &mut words, ROOM) {
         Ok(body) => with_paths(alloc, tokens, file, own, body),
         Err(ParseError::NoMemory) => Err(ParseFault::NoMemory),
         Err(ParseError::Fault) => {

@@ -1,6 +1,6 @@
-//! Parts that are read within the whole budget.
+//! Parts that have as many levels as a declaration: one more than the room of its parts.
 
-ghost use Rattle.std.specs.Prelude.{◌-◌, ◌<◌, suc};
+ghost use Rattle.std.specs.Prelude.{◌<◌, suc};
 ghost use Rattle.ui_parse.specs.View.{Reads};
 ghost use Rattle.ui_ptype.specs.Seen.{see_type};
 ghost use Rattle.ui_psimple.specs.Seen.{see_deep};
@@ -24,12 +24,12 @@ use ui_tree::{Block, CommonTree, StmtTree};
 pub(crate) fn own_type(
     alloc: Global,
     words: &mut Cursor<'_>,
-    budget: u32,
+    room: u32,
 ) -> Result<TypeSub, ParseError>
-    requires { 0 < budget }
-    ensures { Reads see_type (the_type (suc (budget - 1)) words.old) result words.new }
+    requires { room < 4294967295 }
+    ensures { Reads see_type (the_type (suc room) words.old) result words.new }
 {
-    type_of_budget(alloc, words, budget)
+    type_of_budget(alloc, words, room + 1)
 }
 
 /// Constants, behind the keyword at the spot.
@@ -37,13 +37,13 @@ pub(crate) fn own_type(
 pub(crate) fn constants(
     alloc: Global,
     words: &mut Cursor<'_>,
-    budget: u32,
+    room: u32,
     spot: Spot,
 ) -> Result<Deep<CommonTree>, ParseError>
-    requires { 0 < budget }
-    ensures { Reads (see_deep common_view) (common.constant_decl (suc (budget - 1)) spot words.old) result words.new }
+    requires { room < 4294967295 }
+    ensures { Reads (see_deep common_view) (common.constant_decl (suc room) spot words.old) result words.new }
 {
-    constant_decl(alloc, words, budget, spot)
+    constant_decl(alloc, words, room + 1, spot)
 }
 
 /// Variables, behind the keyword at the spot.
@@ -51,13 +51,13 @@ pub(crate) fn constants(
 pub(crate) fn variables(
     alloc: Global,
     words: &mut Cursor<'_>,
-    budget: u32,
+    room: u32,
     spot: Spot,
 ) -> Result<Deep<CommonTree>, ParseError>
-    requires { 0 < budget }
-    ensures { Reads (see_deep common_view) (common.variable_decl (suc (budget - 1)) spot words.old) result words.new }
+    requires { room < 4294967295 }
+    ensures { Reads (see_deep common_view) (common.variable_decl (suc room) spot words.old) result words.new }
 {
-    variable_decl(alloc, words, budget, spot)
+    variable_decl(alloc, words, room + 1, spot)
 }
 
 /// A function's block.
@@ -65,10 +65,10 @@ pub(crate) fn variables(
 pub(crate) fn body(
     alloc: Global,
     words: &mut Cursor<'_>,
-    budget: u32,
+    room: u32,
 ) -> Result<Deep<Block<StmtTree>>, ParseError>
-    requires { 0 < budget }
-    ensures { Reads see_block (spec.block (budget - 1) words.old) result words.new }
+    requires { room < 4294967295 }
+    ensures { Reads see_block (spec.block room words.old) result words.new }
 {
-    block(alloc, words, budget)
+    block(alloc, words, room + 1)
 }

@@ -1,6 +1,6 @@
 //! Declarations. Go specification, "Declarations and scope".
 
-ghost use Rattle.std.specs.Prelude.{◌≡◌, ◌-◌, ◌<◌};
+ghost use Rattle.std.specs.Prelude.{◌≡◌, ◌<◌};
 ghost use Rattle.std.specs.Option.{option_map};
 ghost use Rattle.ui_parse.specs.View.{Reads};
 ghost use Rattle.ui_tree.specs.StmtView.{common_view, decl_view};
@@ -31,13 +31,13 @@ fn common_of(common: Deep<CommonTree>) -> Deep<DeclTree>
 fn types(
     alloc: Global,
     words: &mut Cursor<'_>,
-    budget: u32,
+    room: u32,
     spot: Spot,
 ) -> Result<Deep<DeclTree>, ParseError>
-    requires { 0 < budget }
-    ensures { Reads (see_deep decl_view) (parts.types_behind (budget - 1) spot words.old) result words.new }
+    requires { room < 4294967295 }
+    ensures { Reads (see_deep decl_view) (parts.types_behind room spot words.old) result words.new }
 {
-    let specs = one_or_several(alloc, words, &TypeSpecs { alloc, budget })?;
+    let specs = one_or_several(alloc, words, &TypeSpecs { alloc, room })?;
     Ok(Deep {
         of: DeclTree::Type {
             spot,
@@ -52,16 +52,16 @@ fn types(
 fn maybe_type_or_func(
     alloc: Global,
     words: &mut Cursor<'_>,
-    budget: u32,
+    room: u32,
 ) -> Result<Option<Deep<DeclTree>>, ParseError>
-    requires { 0 < budget }
-    ensures { Reads (option_map (see_deep decl_view)) (parts.type_or_func (budget - 1) words.old) result words.new }
+    requires { room < 4294967295 }
+    ensures { Reads (option_map (see_deep decl_view)) (parts.type_or_func room words.old) result words.new }
 {
     if let Some(spot) = words.take(TokenKind::Type) {
-        return Ok(Some(types(alloc, words, budget, spot)?));
+        return Ok(Some(types(alloc, words, room, spot)?));
     }
     match words.take(TokenKind::Func) {
-        Some(spot) => Ok(Some(function(alloc, words, budget, spot)?)),
+        Some(spot) => Ok(Some(function(alloc, words, room, spot)?)),
         None => Ok(None),
     }
 }
@@ -70,26 +70,26 @@ fn maybe_type_or_func(
 fn maybe_decl(
     alloc: Global,
     words: &mut Cursor<'_>,
-    budget: u32,
+    room: u32,
 ) -> Result<Option<Deep<DeclTree>>, ParseError>
-    requires { 0 < budget }
-    ensures { Reads (option_map (see_deep decl_view)) (spec.maybe_decl (budget - 1) words.old) result words.new }
+    requires { room < 4294967295 }
+    ensures { Reads (option_map (see_deep decl_view)) (spec.maybe_decl room words.old) result words.new }
 {
     if let Some(spot) = words.take(TokenKind::Const) {
-        return Ok(Some(common_of(constants(alloc, words, budget, spot)?)));
+        return Ok(Some(common_of(constants(alloc, words, room, spot)?)));
     }
     match words.take(TokenKind::Var) {
-        Some(spot) => Ok(Some(common_of(variables(alloc, words, budget, spot)?))),
-        None => maybe_type_or_func(alloc, words, budget),
+        Some(spot) => Ok(Some(common_of(variables(alloc, words, room, spot)?))),
+        None => maybe_type_or_func(alloc, words, room),
     }
 }
 
-/// Reads declarations within a budget.
+/// Reads declarations whose parts have so much room.
 #[derive(Clone, Copy)]
 pub(crate) struct Decls {
     pub alloc: Global,
-    pub budget: u32,
-    ghost positive: { 0 < budget },
+    pub room: u32,
+    ghost below: { room < 4294967295 },
 }
 
 impl PartReader<DeclTree> for Decls {
@@ -102,10 +102,10 @@ impl PartReader<DeclTree> for Decls {
 
     ghost see = { decl_view };
 
-    ghost reader = { λ d. decl_part (d.budget - 1) };
+    ghost reader = { λ d. decl_part d.room };
 
     fn read(&self, words: &mut Cursor<'_>) -> Result<Option<DeclTree>, ParseError> {
-        match maybe_decl(self.alloc, words, self.budget)? {
+        match maybe_decl(self.alloc, words, self.room)? {
             Some(decl) => Ok(Some(decl.of)),
             None => Ok(None),
         }

@@ -1,6 +1,6 @@
 //! Files. Go specification, "Source file organization".
 
-ghost use Rattle.std.specs.Prelude.{◌-◌, ◌<◌};
+ghost use Rattle.std.specs.Prelude.{◌<◌};
 ghost use Rattle.ui_parse.specs.View.{Reads};
 ghost use Rattle.ui_stmts.specs.Decls as spec;
 ghost use Rattle.ui_pdecl.specs.Seen.{see_file};
@@ -25,15 +25,15 @@ pub struct FileBody {
 
 // "package" name ";" { Import ";" } { Decl ";" }
 #[tactic(auto, unfolding(ui_stmts::specs::Decls::file))]
-fn file(alloc: Global, words: &mut Cursor<'_>, budget: u32) -> Result<FileBody, ParseError>
-    requires { 0 < budget }
-    ensures { Reads see_file (spec.file (budget - 1) words.old) result words.new }
+fn file(alloc: Global, words: &mut Cursor<'_>, room: u32) -> Result<FileBody, ParseError>
+    requires { room < 4294967295 }
+    ensures { Reads see_file (spec.file room words.old) result words.new }
 {
     let spot = words.expect(TokenKind::Package)?;
     let package = words.expect_name(alloc)?;
     words.expect(TokenKind::Semi)?;
     let imports = each(alloc, words, &Imports { alloc })?;
-    let decls = each(alloc, words, &Decls { alloc, budget })?;
+    let decls = each(alloc, words, &Decls { alloc, room })?;
     Ok(FileBody {
         spot,
         package,
@@ -46,12 +46,12 @@ fn file(alloc: Global, words: &mut Cursor<'_>, budget: u32) -> Result<FileBody, 
 pub(crate) fn whole_file(
     alloc: Global,
     words: &mut Cursor<'_>,
-    budget: u32,
+    room: u32,
 ) -> Result<FileBody, ParseError>
-    requires { 0 < budget }
-    ensures { Reads see_file (spec.whole_file (budget - 1) words.old) result words.new }
+    requires { room < 4294967295 }
+    ensures { Reads see_file (spec.whole_file room words.old) result words.new }
 {
-    let file = file(alloc, words, budget)?;
+    let file = file(alloc, words, room)?;
     words.expect(TokenKind::End)?;
     Ok(file)
 }

@@ -48,7 +48,7 @@ fn opens_params(bracket: &[Token]) -> bool
 fn are_params(alloc: Global, words: &mut Cursor<'_>) -> Result<bool, NoMemory>
     ensures { IfOk result (λ b. b ≡ is_whole (type_params_apart 199 words.old)) }
 {
-    match type_params_apart(alloc, words, 200) {
+    match type_params_apart(alloc, words, 199) {
         Ok(_) => Ok(words.left() == 0),
         Err(ParseError::Fault) => Ok(false),
         Err(ParseError::NoMemory) => Err(AllocError),
@@ -105,8 +105,8 @@ fn reads_farther(alloc: Global, front: &Front<'_>) -> Result<bool, NoMemory>
 {
     let count = front.count + 1;
     let mut words = Cursor::at(front.bytes, front.tokens, front.from).front(count);
-    let budget = 200 + 8 * count as u32 + 16;
-    match whole_file(alloc, &mut words, budget) {
+    let room = 199 + 8 * count as u32 + 16;
+    match whole_file(alloc, &mut words, room) {
         Ok(_) => Ok(words.left() == 0),
         Err(ParseError::Fault) => Ok(words.left() == 0),
         Err(ParseError::NoMemory) => Err(AllocError),

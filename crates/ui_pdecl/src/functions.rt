@@ -1,6 +1,6 @@
 //! Functions and methods, behind the keyword. Go specification, "Function declarations" and "Method declarations".
 
-ghost use Rattle.std.specs.Prelude.{◌≡◌, ◌-◌, ◌<◌, max};
+ghost use Rattle.std.specs.Prelude.{◌≡◌, ◌<◌, max};
 ghost use Rattle.ui_parse.specs.View.{Reads};
 ghost use Rattle.ui_ptype.specs.Seen.{results_tree, results_depth};
 ghost use Rattle.ui_tree.specs.Stmt.{method_decl, func_decl};
@@ -48,13 +48,12 @@ fn result_of(results: Option<TypeSub>) -> Deep<Option<Boxed<TypeExpr>>>
 
 // Params [ Type | Params ]
 #[tactic(auto, unfolding(ui_stmts::specs::Decls::signature))]
-fn signature(alloc: Global, words: &mut Cursor<'_>, budget: u32) -> Result<Signature, ParseError>
-    requires { 0 < budget }
-    ensures { Reads (see_signature (budget - 1)) (spec.signature (budget - 1) words.old) result words.new }
+fn signature(alloc: Global, words: &mut Cursor<'_>, room: u32) -> Result<Signature, ParseError>
+    ensures { Reads (see_signature room) (spec.signature room words.old) result words.new }
 {
     words.expect(TokenKind::LParen)?;
-    let params = params(alloc, words, budget)?;
-    match results(alloc, words, budget) {
+    let params = params(alloc, words, room)?;
+    match results(alloc, words, room) {
         Ok(results) => {
             let results = result_of(results);
             match deeper(params.depth.max(results.depth)) {
@@ -76,16 +75,16 @@ fn signature(alloc: Global, words: &mut Cursor<'_>, budget: u32) -> Result<Signa
 fn method_named(
     alloc: Global,
     words: &mut Cursor<'_>,
-    budget: u32,
+    room: u32,
     spot: Spot,
     receiver: Receiver,
     name: Placed,
 ) -> Result<Deep<DeclTree>, ParseError>
-    requires { 0 < budget }
-    ensures { Reads (see_deep decl_view) (method_named (budget - 1) spot (receiver_view receiver) name words.old) result words.new }
+    requires { room < 4294967295 }
+    ensures { Reads (see_deep decl_view) (method_named room spot (receiver_view receiver) name words.old) result words.new }
 {
-    match signature(alloc, words, budget) {
-        Ok(sig) => match body(alloc, words, budget) {
+    match signature(alloc, words, room) {
+        Ok(sig) => match body(alloc, words, room) {
             Ok(body) => Ok(method_of(spot, receiver, name, sig, body)),
             Err(fault) => Err(fault),
         },
@@ -139,15 +138,15 @@ fn func_of(
 fn method(
     alloc: Global,
     words: &mut Cursor<'_>,
-    budget: u32,
+    room: u32,
     spot: Spot,
     receiver: Receiver,
 ) -> Result<Deep<DeclTree>, ParseError>
-    requires { 0 < budget }
-    ensures { Reads (see_deep decl_view) (spec.method_behind (budget - 1) spot (receiver_view receiver) words.old) result words.new }
+    requires { room < 4294967295 }
+    ensures { Reads (see_deep decl_view) (spec.method_behind room spot (receiver_view receiver) words.old) result words.new }
 {
     match words.expect_name(alloc) {
-        Ok(name) => method_named(alloc, words, budget, spot, receiver, name),
+        Ok(name) => method_named(alloc, words, room, spot, receiver, name),
         Err(fault) => Err(fault),
     }
 }
@@ -155,16 +154,16 @@ fn method(
 fn func(
     alloc: Global,
     words: &mut Cursor<'_>,
-    budget: u32,
+    room: u32,
     spot: Spot,
     name: Placed,
     params: MaybeParams,
 ) -> Result<Deep<DeclTree>, ParseError>
-    requires { 0 < budget }
-    ensures { Reads (see_deep decl_view) (spec.func_behind (budget - 1) spot name (maybe_groups params.of) params.depth words.old) result words.new }
+    requires { room < 4294967295 }
+    ensures { Reads (see_deep decl_view) (spec.func_behind room spot name (maybe_groups params.of) params.depth words.old) result words.new }
 {
-    match signature(alloc, words, budget) {
-        Ok(sig) => match body(alloc, words, budget) {
+    match signature(alloc, words, room) {
+        Ok(sig) => match body(alloc, words, room) {
             Ok(body) => Ok(func_of(spot, name, params, sig, body)),
             Err(fault) => Err(fault),
         },
@@ -177,24 +176,24 @@ fn func(
 fn func_named(
     alloc: Global,
     words: &mut Cursor<'_>,
-    budget: u32,
+    room: u32,
     spot: Spot,
     name: Placed,
 ) -> Result<Deep<DeclTree>, ParseError>
-    requires { 0 < budget }
-    ensures { Reads (see_deep decl_view) (func_named (budget - 1) spot name words.old) result words.new }
+    requires { room < 4294967295 }
+    ensures { Reads (see_deep decl_view) (func_named room spot name words.old) result words.new }
 {
     if words.take(TokenKind::LBracket).is_none() {
         let none = Deep { of: None, depth: 0 };
-        return func(alloc, words, budget, spot, name, none);
+        return func(alloc, words, room, spot, name, none);
     }
-    match type_params(alloc, words, budget) {
+    match type_params(alloc, words, room) {
         Ok(params) => {
             let params = Deep {
                 of: Some(params.groups),
                 depth: params.depth,
             };
-            func(alloc, words, budget, spot, name, params)
+            func(alloc, words, room, spot, name, params)
         }
         Err(fault) => Err(fault),
     }
@@ -205,16 +204,16 @@ fn func_named(
 pub(crate) fn function(
     alloc: Global,
     words: &mut Cursor<'_>,
-    budget: u32,
+    room: u32,
     spot: Spot,
 ) -> Result<Deep<DeclTree>, ParseError>
-    requires { 0 < budget }
-    ensures { Reads (see_deep decl_view) (spec.function (budget - 1) spot words.old) result words.new }
+    requires { room < 4294967295 }
+    ensures { Reads (see_deep decl_view) (spec.function room spot words.old) result words.new }
 {
     if let Some(open) = words.take(TokenKind::LParen) {
         let receiver = receiver(alloc, words, open)?;
-        return method(alloc, words, budget, spot, receiver);
+        return method(alloc, words, room, spot, receiver);
     }
     let name = words.expect_name(alloc)?;
-    func_named(alloc, words, budget, spot, name)
+    func_named(alloc, words, room, spot, name)
 }

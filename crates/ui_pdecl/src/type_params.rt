@@ -1,6 +1,6 @@
 //! Type parameters, behind the bracket. Go specification, "Type parameter declarations".
 
-ghost use Rattle.std.specs.Prelude.{◌≡◌, ◌-◌, ◌<◌, IfOk};
+ghost use Rattle.std.specs.Prelude.{◌≡◌, IfOk};
 ghost use Rattle.ui_parse.specs.Reader as reader;
 ghost use Rattle.ui_parse.specs.View.{Reads};
 ghost use Rattle.ui_scan.specs.declared.kind.TokenKind.TheVariants.{Comma, RBracket};
@@ -109,17 +109,16 @@ impl TypeParams {
 fn maybe_bound(
     alloc: Global,
     words: &mut Cursor<'_>,
-    budget: u32,
+    room: u32,
 ) -> Result<Option<TypeSub>, ParseError>
-    requires { 0 < budget }
-    ensures { Reads see_maybe (spec.maybe_bound (budget - 1) words.old) result words.new }
+    ensures { Reads see_maybe (spec.maybe_bound room words.old) result words.new }
 {
     if let Some(spot) = words.take(TokenKind::Tilde) {
-        let first = tilde(alloc, words, budget, spot)?;
-        return union_from(alloc, words, budget, first);
+        let first = tilde(alloc, words, room, spot)?;
+        return union_from(alloc, words, room, first);
     }
-    match plain_type(alloc, words, budget)? {
-        Some(first) => union_from(alloc, words, budget, first),
+    match plain_type(alloc, words, room)? {
+        Some(first) => union_from(alloc, words, room, first),
         None => Ok(None),
     }
 }
@@ -129,14 +128,13 @@ fn maybe_bound(
 fn param_named(
     alloc: Global,
     words: &mut Cursor<'_>,
-    budget: u32,
+    room: u32,
     params: TypeParams,
     name: Placed,
 ) -> Result<TypeParams, ParseError>
-    requires { 0 < budget }
-    ensures { Reads see_type_params (param_named (budget - 1) (see_type_params params) name words.old) result words.new }
+    ensures { Reads see_type_params (param_named room (see_type_params params) name words.old) result words.new }
 {
-    match maybe_bound(alloc, words, budget) {
+    match maybe_bound(alloc, words, room) {
         Ok(bound) => Ok(params.add(alloc, name, bound)?),
         Err(fault) => Err(fault),
     }
@@ -145,41 +143,38 @@ fn param_named(
 fn type_param(
     alloc: Global,
     words: &mut Cursor<'_>,
-    budget: u32,
+    room: u32,
     params: TypeParams,
 ) -> Result<TypeParams, ParseError>
-    requires { 0 < budget }
-    ensures { Reads see_type_params (spec.type_param (budget - 1) (see_type_params params) words.old) result words.new }
+    ensures { Reads see_type_params (spec.type_param room (see_type_params params) words.old) result words.new }
 {
     match words.expect_name(alloc) {
-        Ok(name) => param_named(alloc, words, budget, params, name),
+        Ok(name) => param_named(alloc, words, room, params, name),
         Err(fault) => Err(fault),
     }
 }
 
-fn first_param(alloc: Global, words: &mut Cursor<'_>, budget: u32) -> Result<TypeParams, ParseError>
-    requires { 0 < budget }
-    ensures { Reads see_type_params (spec.type_param (budget - 1) spec.no_type_params words.old) result words.new }
+fn first_param(alloc: Global, words: &mut Cursor<'_>, room: u32) -> Result<TypeParams, ParseError>
+    ensures { Reads see_type_params (spec.type_param room spec.no_type_params words.old) result words.new }
 {
-    type_param(alloc, words, budget, TypeParams::new(alloc))
+    type_param(alloc, words, room, TypeParams::new(alloc))
 }
 
 // What follows a part, up to the bracket.
 fn more_params(
     alloc: Global,
     words: &mut Cursor<'_>,
-    budget: u32,
+    room: u32,
     params: TypeParams,
 ) -> Result<TypeParams, ParseError>
-    requires { 0 < budget }
-    ensures { Reads see_type_params (reader.more_parts Comma RBracket spec.type_params_ending (spec.type_param (budget - 1)) (see_type_params params) words.old) result words.new }
+    ensures { Reads see_type_params (reader.more_parts Comma RBracket spec.type_params_ending (spec.type_param room) (see_type_params params) words.old) result words.new }
 {
     more_parts(
         words,
         TokenKind::Comma,
         TokenKind::RBracket,
         params,
-        &|words: &mut Cursor<'_>, params| type_param(alloc, words, budget, params),
+        &|words: &mut Cursor<'_>, params| type_param(alloc, words, room, params),
     )
 }
 
@@ -187,18 +182,17 @@ fn more_params(
 fn params_behind(
     alloc: Global,
     words: &mut Cursor<'_>,
-    budget: u32,
+    room: u32,
     params: TypeParams,
 ) -> Result<TypeParams, ParseError>
-    requires { 0 < budget }
-    ensures { Reads see_type_params (reader.parts Comma RBracket spec.type_params_ending (spec.type_param (budget - 1)) (see_type_params params) words.old) result words.new }
+    ensures { Reads see_type_params (reader.parts Comma RBracket spec.type_params_ending (spec.type_param room) (see_type_params params) words.old) result words.new }
 {
     parts(
         words,
         TokenKind::Comma,
         TokenKind::RBracket,
         params,
-        &|words: &mut Cursor<'_>, params| type_param(alloc, words, budget, params),
+        &|words: &mut Cursor<'_>, params| type_param(alloc, words, room, params),
     )
 }
 
@@ -207,30 +201,28 @@ fn params_behind(
 pub(crate) fn type_params(
     alloc: Global,
     words: &mut Cursor<'_>,
-    budget: u32,
+    room: u32,
 ) -> Result<TypeParams, ParseError>
-    requires { 0 < budget }
-    ensures { Reads see_type_params (spec.type_params (budget - 1) words.old) result words.new }
+    ensures { Reads see_type_params (spec.type_params room words.old) result words.new }
 {
-    let first = first_param(alloc, words, budget)?;
-    more_params(alloc, words, budget, first)
+    let first = first_param(alloc, words, room)?;
+    more_params(alloc, words, room, first)
 }
 
 // Behind a first part that is an array's length too there has to be a comma.
 fn apart(
     alloc: Global,
     words: &mut Cursor<'_>,
-    budget: u32,
+    room: u32,
     params: TypeParams,
 ) -> Result<TypeParams, ParseError>
-    requires { 0 < budget }
-    ensures { Reads see_type_params (spec.apart (budget - 1) (see_type_params params) words.old) result words.new }
+    ensures { Reads see_type_params (spec.apart room (see_type_params params) words.old) result words.new }
 {
     if !is_length(params.groups.as_slice()) {
-        return more_params(alloc, words, budget, params);
+        return more_params(alloc, words, room, params);
     }
     match words.expect(TokenKind::Comma) {
-        Ok(_) => params_behind(alloc, words, budget, params),
+        Ok(_) => params_behind(alloc, words, room, params),
         Err(fault) => Err(fault),
     }
 }
@@ -240,11 +232,10 @@ fn apart(
 pub(crate) fn type_params_apart(
     alloc: Global,
     words: &mut Cursor<'_>,
-    budget: u32,
+    room: u32,
 ) -> Result<TypeParams, ParseError>
-    requires { 0 < budget }
-    ensures { Reads see_type_params (spec.type_params_apart (budget - 1) words.old) result words.new }
+    ensures { Reads see_type_params (spec.type_params_apart room words.old) result words.new }
 {
-    let first = first_param(alloc, words, budget)?;
-    apart(alloc, words, budget, first)
+    let first = first_param(alloc, words, room)?;
+    apart(alloc, words, room, first)
 }

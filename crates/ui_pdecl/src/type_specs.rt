@@ -1,6 +1,6 @@
 //! Type specifications. Go specification, "Type declarations".
 
-ghost use Rattle.std.specs.Prelude.{◌≡◌, ◌-◌, ◌<◌, IfOk, max, false};
+ghost use Rattle.std.specs.Prelude.{◌≡◌, ◌<◌, IfOk, max, false};
 ghost use Rattle.ui_tree.specs.StmtView.{groups_view};
 ghost use Rattle.ui_parse.specs.Reader.{Outcome};
 ghost use Rattle.ui_parse.specs.View.{Reads};
@@ -54,14 +54,14 @@ fn spec_of(alloc: Global, name: Placed, alias: bool, of: TypeSub) -> Result<Spec
 fn plain_spec(
     alloc: Global,
     words: &mut Cursor<'_>,
-    budget: u32,
+    room: u32,
     name: Placed,
     alias: bool,
 ) -> Result<SpecSub, ParseError>
-    requires { 0 < budget }
-    ensures { Reads (see_deep type_spec_view) (spec.plain_group (budget - 1) name alias words.old) result words.new }
+    requires { room < 4294967295 }
+    ensures { Reads (see_deep type_spec_view) (spec.plain_group room name alias words.old) result words.new }
 {
-    match own_type(alloc, words, budget) {
+    match own_type(alloc, words, room) {
         Ok(of) => Ok(spec_of(alloc, name, alias, of)?),
         Err(fault) => Err(fault),
     }
@@ -71,14 +71,13 @@ fn plain_spec(
 fn bracketed_spec(
     alloc: Global,
     words: &mut Cursor<'_>,
-    budget: u32,
+    room: u32,
     name: Placed,
     spot: Spot,
 ) -> Result<SpecSub, ParseError>
-    requires { 0 < budget }
-    ensures { Reads (see_deep type_spec_view) (spec.bracketed_group (budget - 1) name spot words.old) result words.new }
+    ensures { Reads (see_deep type_spec_view) (spec.bracketed_group room name spot words.old) result words.new }
 {
-    match bracket_type(alloc, words, budget, TypeSite::Plain, spot) {
+    match bracket_type(alloc, words, room, TypeSite::Plain, spot) {
         Ok(of) => Ok(spec_of(alloc, name, false, of)?),
         Err(fault) => Err(fault),
     }
@@ -107,14 +106,14 @@ fn generic_of(
 fn generic_spec(
     alloc: Global,
     words: &mut Cursor<'_>,
-    budget: u32,
+    room: u32,
     name: Placed,
 ) -> Result<SpecSub, ParseError>
-    requires { 0 < budget }
-    ensures { Reads (see_deep type_spec_view) (spec.generic_group (budget - 1) name words.old) result words.new }
+    requires { room < 4294967295 }
+    ensures { Reads (see_deep type_spec_view) (spec.generic_group room name words.old) result words.new }
 {
-    match type_params_apart(alloc, words, budget) {
-        Ok(params) => match own_type(alloc, words, budget) {
+    match type_params_apart(alloc, words, room) {
+        Ok(params) => match own_type(alloc, words, room) {
             Ok(of) => Ok(generic_of(alloc, name, params, of)?),
             Err(fault) => Err(fault),
         },
@@ -158,22 +157,22 @@ fn copy_name(alloc: Global, name: &Placed) -> Result<Placed, NoMemory>
 fn length_or_params(
     alloc: Global,
     words: &mut Cursor<'_>,
-    budget: u32,
+    room: u32,
     name: Placed,
     spot: Spot,
 ) -> Result<SpecSub, ParseError>
-    requires { 0 < budget }
-    ensures { Reads (see_deep type_spec_view) (bracketed (budget - 1) name spot words.old) result words.new }
+    requires { room < 4294967295 }
+    ensures { Reads (see_deep type_spec_view) (bracketed room name spot words.old) result words.new }
 {
-    if budget < 2 {
-        return generic_spec(alloc, words, budget, name);
+    if room == 0 {
+        return generic_spec(alloc, words, room, name);
     }
     let Ok(copy) = copy_name(alloc, &name) else {
         return Err(ParseError::NoMemory);
     };
     let mut other = words.fork();
-    let length = bracketed_spec(alloc, words, budget, name, spot);
-    let params = generic_spec(alloc, &mut other, budget, copy);
+    let length = bracketed_spec(alloc, words, room, name, spot);
+    let params = generic_spec(alloc, &mut other, room, copy);
     farther(words, other, length, params)
 }
 
@@ -181,45 +180,41 @@ fn length_or_params(
 fn named_spec(
     alloc: Global,
     words: &mut Cursor<'_>,
-    budget: u32,
+    room: u32,
     name: Placed,
 ) -> Result<SpecSub, ParseError>
-    requires { 0 < budget }
-    ensures { Reads (see_deep type_spec_view) (named_spec (budget - 1) name words.old) result words.new }
+    requires { room < 4294967295 }
+    ensures { Reads (see_deep type_spec_view) (named_spec room name words.old) result words.new }
 {
     if words.take(TokenKind::Assign).is_some() {
-        return plain_spec(alloc, words, budget, name, true);
+        return plain_spec(alloc, words, room, name, true);
     }
     match words.take(TokenKind::LBracket) {
-        Some(spot) => length_or_params(alloc, words, budget, name, spot),
-        None => plain_spec(alloc, words, budget, name, false),
+        Some(spot) => length_or_params(alloc, words, room, name, spot),
+        None => plain_spec(alloc, words, room, name, false),
     }
 }
 
 // name [ TPars ] Type | name "=" Type
 #[tactic(auto, unfolding(ui_stmts::specs::Decls::type_spec))]
-fn type_spec(
-    alloc: Global,
-    words: &mut Cursor<'_>,
-    budget: u32,
-) -> Result<Deep<TypeSpec>, ParseError>
-    requires { 0 < budget }
-    ensures { Reads (see_deep type_spec_view) (spec.type_spec (budget - 1) words.old) result words.new }
+fn type_spec(alloc: Global, words: &mut Cursor<'_>, room: u32) -> Result<Deep<TypeSpec>, ParseError>
+    requires { room < 4294967295 }
+    ensures { Reads (see_deep type_spec_view) (spec.type_spec room words.old) result words.new }
 {
     let name = words.expect_name(alloc)?;
-    let spec = named_spec(alloc, words, budget, name)?;
+    let spec = named_spec(alloc, words, room, name)?;
     Ok(Deep {
         of: spec.of.into_inner(),
         depth: spec.depth,
     })
 }
 
-/// Reads type specifications within a budget.
+/// Reads type specifications whose parts have so much room.
 #[derive(Clone, Copy)]
 pub(crate) struct TypeSpecs {
     pub alloc: Global,
-    pub budget: u32,
-    ghost positive: { 0 < budget },
+    pub room: u32,
+    ghost below: { room < 4294967295 },
 }
 
 impl SpecReader for TypeSpecs {
@@ -234,9 +229,9 @@ impl SpecReader for TypeSpecs {
 
     ghost see = { type_spec_view };
 
-    ghost reader = { λ t. type_spec (t.budget - 1) };
+    ghost reader = { λ t. type_spec (t.room) };
 
     fn read(&self, words: &mut Cursor<'_>) -> Result<Deep<TypeSpec>, ParseError> {
-        type_spec(self.alloc, words, self.budget)
+        type_spec(self.alloc, words, self.room)
     }
 }

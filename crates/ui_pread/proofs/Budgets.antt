@@ -1,5 +1,5 @@
--- The readers of a budget, where it is none, and where it is one above those of its parts.
-use Rattle.std.proofs.Common.{◌≡◌, ℕ, zero, suc, ◌-◌, ◌<◌, List, Option, Result, Ok, Err, refl, sym, ap, subst, arith}
+-- The readers of a budget, where it is none, and where it is one above the room of the parts.
+use Rattle.std.proofs.Common.{◌≡◌, ℕ, zero, suc, ◌-◌, List, Option, Result, Ok, Err, refl, sym, ap, subst, arith}
 use Rattle.ui_grammar.specs.Word.{Word}
 use Rattle.ui_parse.specs.declared.fault.ParseError.{ParseError}
 use Rattle.ui_parse.specs.View.{Reads}
@@ -25,44 +25,48 @@ unfolding readers
 readers_none zero e = refl
 readers_none (suc d) e = absurd (omega (arith, e))
 
-readers_next : (b : ℕ) → (b ≡ 0 → ⊥) → readers b ≡ next (b - 1) (readers (b - 1))
+readers_next : (room : ℕ) → readers (suc room) ≡ next room (readers room)
 unfolding readers
-readers_next zero some = absurd (some refl)
-readers_next (suc d) some = let e : suc d - 1 ≡ d = omega arith in sym (ap (λ (k : ℕ). next k (readers k)) e)
+readers_next room = refl
 
-some_budget : (b : ℕ) → 0 < b → b ≡ 0 → ⊥
-some_budget b pos e = omega (arith, pos, e)
+-- ---- the readers of trees, by those of their parts
 
--- ---- the readers of a budget, by those of its parts
+reads_level : (room : ℕ) (s : Site) (least : ℕ) (ws : List Word) (r : Result Sub ParseError) (left : List Word) → Reads see (level room (readers room) s least ws) r left → Reads see ((readers (suc room)).level s least ws) r left
+reads_level room s least ws r left h = subst (λ (n : Nested). Reads see (n.level s least ws) r left) (sym (readers_next room)) h
 
-reads_level : (b : ℕ) (s : Site) (least : ℕ) (ws : List Word) (r : Result Sub ParseError) (left : List Word) → (b ≡ 0 → ⊥) → Reads see (level (b - 1) (readers (b - 1)) s least ws) r left → Reads see ((readers b).level s least ws) r left
-reads_level b s least ws r left some h = subst (λ (n : Nested). Reads see (n.level s least ws) r left) (sym (readers_next b some)) h
+reads_type : (room : ℕ) (p : TypeSite) (ws : List Word) (r : Result (Option TypeSub) ParseError) (left : List Word) → Reads see_maybe (maybe_type room (readers room) p ws) r left → Reads see_maybe ((readers (suc room)).maybe_type p ws) r left
+reads_type room p ws r left h = subst (λ (n : Nested). Reads see_maybe (n.maybe_type p ws) r left) (sym (readers_next room)) h
 
-reads_type : (b : ℕ) (p : TypeSite) (ws : List Word) (r : Result (Option TypeSub) ParseError) (left : List Word) → (b ≡ 0 → ⊥) → Reads see_maybe (maybe_type (b - 1) (readers (b - 1)) p ws) r left → Reads see_maybe ((readers b).maybe_type p ws) r left
-reads_type b p ws r left some h = subst (λ (n : Nested). Reads see_maybe (n.maybe_type p ws) r left) (sym (readers_next b some)) h
-
-reads_braces : (b : ℕ) (ws : List Word) (r : Result Subs ParseError) (left : List Word) → (b ≡ 0 → ⊥) → Reads see_all (braces (b - 1) (readers (b - 1)) ws) r left → Reads see_all ((readers b).braces ws) r left
-reads_braces b ws r left some h = subst (λ (n : Nested). Reads see_all (n.braces ws) r left) (sym (readers_next b some)) h
+reads_braces : (room : ℕ) (ws : List Word) (r : Result Subs ParseError) (left : List Word) → Reads see_all (braces room (readers room) ws) r left → Reads see_all ((readers (suc room)).braces ws) r left
+reads_braces room ws r left h = subst (λ (n : Nested). Reads see_all (n.braces ws) r left) (sym (readers_next room)) h
 
 -- ---- what is asked for, by the readers of its parts
 
-pub asked_level : (b : ℕ) (s : Site) (least : ℕ) (ws left : List Word) (x : Sub) → 0 < b → Reads see (level (b - 1) (readers (b - 1)) s least ws) (Ok x) left → Reads see_got (asked b (ask.Level s least) ws) (Ok (Level x)) left
-asked_level b s least ws left x pos h = level_given b s least ws left x (reads_level b s least ws (Ok x) left (some_budget b pos) h)
+pub asked_level : (room : ℕ) (s : Site) (least : ℕ) (ws left : List Word) (x : Sub) → Reads see (level room (readers room) s least ws) (Ok x) left → Reads see_got (asked (suc room) (ask.Level s least) ws) (Ok (Level x)) left
+asked_level room s least ws left x h = level_given (suc room) s least ws left x (reads_level room s least ws (Ok x) left h)
 
-pub asked_level_fault : (b : ℕ) (s : Site) (least : ℕ) (ws left : List Word) (e : ParseError) → 0 < b → Reads see (level (b - 1) (readers (b - 1)) s least ws) (Err e) left → Reads see_got (asked b (ask.Level s least) ws) (Err e) left
-asked_level_fault b s least ws left e pos h = reads_fault see see_got ((readers b).level s least ws) _ e left (reads_level b s least ws (Err e) left (some_budget b pos) h)
+pub asked_level_fault : (room : ℕ) (s : Site) (least : ℕ) (ws left : List Word) (e : ParseError) → Reads see (level room (readers room) s least ws) (Err e) left → Reads see_got (asked (suc room) (ask.Level s least) ws) (Err e) left
+asked_level_fault room s least ws left e h = reads_fault see see_got ((readers (suc room)).level s least ws) _ e left (reads_level room s least ws (Err e) left h)
 
-pub asked_type : (b : ℕ) (p : TypeSite) (ws left : List Word) (x : Option TypeSub) → 0 < b → Reads see_maybe (maybe_type (b - 1) (readers (b - 1)) p ws) (Ok x) left → Reads see_got (asked b (ask.MaybeType p) ws) (Ok (MaybeType x)) left
-asked_type b p ws left x pos h = type_given b p ws left x (reads_type b p ws (Ok x) left (some_budget b pos) h)
+pub asked_type : (room : ℕ) (p : TypeSite) (ws left : List Word) (x : Option TypeSub) → Reads see_maybe (maybe_type room (readers room) p ws) (Ok x) left → Reads see_got (asked (suc room) (ask.MaybeType p) ws) (Ok (MaybeType x)) left
+asked_type room p ws left x h = type_given (suc room) p ws left x (reads_type room p ws (Ok x) left h)
 
-pub asked_type_fault : (b : ℕ) (p : TypeSite) (ws left : List Word) (e : ParseError) → 0 < b → Reads see_maybe (maybe_type (b - 1) (readers (b - 1)) p ws) (Err e) left → Reads see_got (asked b (ask.MaybeType p) ws) (Err e) left
-asked_type_fault b p ws left e pos h = reads_fault see_maybe see_got ((readers b).maybe_type p ws) _ e left (reads_type b p ws (Err e) left (some_budget b pos) h)
+pub asked_type_fault : (room : ℕ) (p : TypeSite) (ws left : List Word) (e : ParseError) → Reads see_maybe (maybe_type room (readers room) p ws) (Err e) left → Reads see_got (asked (suc room) (ask.MaybeType p) ws) (Err e) left
+asked_type_fault room p ws left e h = reads_fault see_maybe see_got ((readers (suc room)).maybe_type p ws) _ e left (reads_type room p ws (Err e) left h)
 
-pub asked_braces : (b : ℕ) (ws left : List Word) (x : Subs) → 0 < b → Reads see_all (braces (b - 1) (readers (b - 1)) ws) (Ok x) left → Reads see_got (asked b ask.Braces ws) (Ok (Braces x)) left
-asked_braces b ws left x pos h = braces_given b ws left x (reads_braces b ws (Ok x) left (some_budget b pos) h)
+pub asked_braces : (room : ℕ) (ws left : List Word) (x : Subs) → Reads see_all (braces room (readers room) ws) (Ok x) left → Reads see_got (asked (suc room) ask.Braces ws) (Ok (Braces x)) left
+asked_braces room ws left x h = braces_given (suc room) ws left x (reads_braces room ws (Ok x) left h)
 
-pub asked_braces_fault : (b : ℕ) (ws left : List Word) (e : ParseError) → 0 < b → Reads see_all (braces (b - 1) (readers (b - 1)) ws) (Err e) left → Reads see_got (asked b ask.Braces ws) (Err e) left
-asked_braces_fault b ws left e pos h = reads_fault see_all see_got ((readers b).braces ws) _ e left (reads_braces b ws (Err e) left (some_budget b pos) h)
+pub asked_braces_fault : (room : ℕ) (ws left : List Word) (e : ParseError) → Reads see_all (braces room (readers room) ws) (Err e) left → Reads see_got (asked (suc room) ask.Braces ws) (Err e) left
+asked_braces_fault room ws left e h = reads_fault see_all see_got ((readers (suc room)).braces ws) _ e left (reads_braces room ws (Err e) left h)
+
+-- ---- a budget is one above the room of the parts
+
+one_above : (b : ℕ) → (b ≡ 0 → ⊥) → suc (b - 1) ≡ b
+one_above b some = omega (arith, some)
+
+pub asked_above : (b : ℕ) (ask : Ask) (ws left : List Word) (r : Result Got ParseError) → (b ≡ 0 → ⊥) → Reads see_got (asked (suc (b - 1)) ask ws) r left → Reads see_got (asked b ask ws) r left
+asked_above b ask ws left r some h = subst (λ (k : ℕ). Reads see_got (asked k ask ws) r left) (one_above b some) h
 
 -- ---- nothing is read without a budget
 

@@ -2,7 +2,6 @@ mod CodeWords
 mod Budgets
 mod Loops
 mod Expressions
-mod Whole
 mod Operands
 mod LiteralTurns
 mod Conversions

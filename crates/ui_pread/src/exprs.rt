@@ -1,6 +1,6 @@
 //! Expressions, by descent and climbing. Go specification, "Operators".
 
-ghost use Rattle.std.specs.Prelude.{◌≡◌, ◌-◌, IfOk, suc};
+ghost use Rattle.std.specs.Prelude.{◌≡◌, IfOk, suc};
 ghost use Rattle.ui_syntax.specs.Exprs.{of_tree};
 ghost use Rattle.ui_tree.specs.Tree.{pointer, type_arg};
 ghost use Rattle.ui_tree.specs.View.{type_view};
@@ -22,7 +22,7 @@ use ui_ptype::{Ask, Got, Grammar, Sub, expr_over, into_type_alone, is_type_alone
 use ui_syntax::Site;
 use ui_tree::{Boxed, ExprTree, TypeExpr};
 
-/// The readers of expressions of a budget, over those of types.
+/// The readers of expressions whose parts have so much room, over those of types.
 #[derive(Clone, Copy)]
 pub(crate) struct Exprs<F>
 where
@@ -55,8 +55,8 @@ where
         site: Site,
         prefix: Prefix,
     ) -> Result<Sub, ParseError>
-        requires { Nests self.now.types.budget (F.pre self.now.types.part) (F.post self.now.types.part) }
-        ensures { Reads see (spec.prefixed (self.now.types.budget - 1) (readers (self.now.types.budget - 1)) site (see_prefix prefix) words.old) result words.new }
+        requires { Nests self.now.types.room (F.pre self.now.types.part) (F.post self.now.types.part) }
+        ensures { Reads see (spec.prefixed self.now.types.room (readers self.now.types.room) site (see_prefix prefix) words.old) result words.new }
     {
         let Prefix { op, spot } = prefix;
         let of = match self.types.level_at(words, prefix_site(op, site), 6) {
@@ -82,10 +82,10 @@ where
 
     #[tactic(auto, using(crate::proofs::Prefixes::unary_low, crate::proofs::Prefixes::unary_prefix, crate::proofs::Prefixes::unary_plain))]
     fn unary_expr(&self, words: &mut Cursor<'_>, site: Site) -> Result<Sub, ParseError>
-        requires { Nests self.now.types.budget (F.pre self.now.types.part) (F.post self.now.types.part) }
-        ensures { Reads see (spec.unary_expr (self.now.types.budget - 1) (readers (self.now.types.budget - 1)) site words.old) result words.new }
+        requires { Nests self.now.types.room (F.pre self.now.types.part) (F.post self.now.types.part) }
+        ensures { Reads see (spec.unary_expr self.now.types.room (readers self.now.types.room) site words.old) result words.new }
     {
-        if self.types.budget < 2 {
+        if self.types.room == 0 {
             return self.primary(words, site);
         }
         match take_prefix(words) {
@@ -103,8 +103,8 @@ where
         least: u8,
         left: Sub,
     ) -> Result<Turn<Sub>, ParseError>
-        requires { Nests self.now.types.budget (F.pre self.now.types.part) (F.post self.now.types.part) }
-        ensures { Reads (see_turn see) (operation_turn (self.now.types.budget - 1) (readers (self.now.types.budget - 1)) site least (see left) words.old) result words.new }
+        requires { Nests self.now.types.room (F.pre self.now.types.part) (F.post self.now.types.part) }
+        ensures { Reads (see_turn see) (operation_turn self.now.types.room (readers self.now.types.room) site least (see left) words.old) result words.new }
     {
         let Some(op) = take_operator(words, least) else {
             return Ok(Turn::Done(left));
@@ -130,12 +130,12 @@ where
         least: u8,
         left: Sub,
     ) -> Result<Sub, ParseError>
-        requires { Nests self.now.types.budget (F.pre self.now.types.part) (F.post self.now.types.part) }
-        ensures { Reads see (spec.operations (self.now.types.budget - 1) (readers (self.now.types.budget - 1)) site least (suc self.now.types.budget) (see left) words.old) result words.new }
+        requires { Nests self.now.types.room (F.pre self.now.types.part) (F.post self.now.types.part) }
+        ensures { Reads see (spec.operations self.now.types.room (readers self.now.types.room) site least (suc (suc self.now.types.room)) (see left) words.old) result words.new }
     {
         let mut left = left;
         // Each turn makes the tree deeper.
-        let mut turns = self.types.budget;
+        let mut turns = self.types.room as u64 + 1;
         while self.has_room(&left) {
             match self.operation(words, site, least, left) {
                 Ok(Turn::Done(last)) => return Ok(last),
@@ -157,8 +157,8 @@ where
         site: Site,
         least: u8,
     ) -> Result<Sub, ParseError>
-        requires { Nests self.now.types.budget (F.pre self.now.types.part) (F.post self.now.types.part) }
-        ensures { Reads see (spec.level (self.now.types.budget - 1) (readers (self.now.types.budget - 1)) site least words.old) result words.new }
+        requires { Nests self.now.types.room (F.pre self.now.types.part) (F.post self.now.types.part) }
+        ensures { Reads see (spec.level self.now.types.room (readers self.now.types.room) site least words.old) result words.new }
     {
         let left = match self.unary_expr(words, site) {
             Ok(left) => left,

@@ -1,6 +1,6 @@
 //! Indices, slices and instances. Go specification, "Index expressions", "Slice expressions", "Instantiations".
 
-ghost use Rattle.std.specs.Prelude.{◌≡◌, ◌-◌, None, IfOk};
+ghost use Rattle.std.specs.Prelude.{◌≡◌, None, IfOk};
 ghost use Rattle.std.specs.Option.{option_map};
 ghost use Rattle.ui_pread.specs.Seen.{see_bound, bound_depth};
 ghost use Rattle.ui_ptype.specs.Seen.{see, see_types};
@@ -48,7 +48,7 @@ where
         high: Option<Sub>,
         most: Option<Sub>,
     ) -> Result<Sub, NoMemory>
-        ensures { IfOk result (λ s. see s ≡ spec.slice_of (self.now.types.budget - 1) (readers (self.now.types.budget - 1)) (see of) (see_bound low) (bound_depth low) (see_bound high) (bound_depth high) (see_bound most) (bound_depth most)) }
+        ensures { IfOk result (λ s. see s ≡ spec.slice_of self.now.types.room (readers self.now.types.room) (see of) (see_bound low) (bound_depth low) (see_bound high) (bound_depth high) (see_bound most) (bound_depth most)) }
     {
         let (low, low_depth) = bound(low);
         let (high, high_depth) = bound(high);
@@ -67,8 +67,8 @@ where
         low: Option<Sub>,
         high: Sub,
     ) -> Result<Sub, ParseError>
-        requires { Nests self.now.types.budget (F.pre self.now.types.part) (F.post self.now.types.part) }
-        ensures { Reads see (spec.third_bound (self.now.types.budget - 1) (readers (self.now.types.budget - 1)) (see of) (see_bound low) (bound_depth low) (see high) words.old) result words.new }
+        requires { Nests self.now.types.room (F.pre self.now.types.part) (F.post self.now.types.part) }
+        ensures { Reads see (spec.third_bound self.now.types.room (readers self.now.types.room) (see of) (see_bound low) (bound_depth low) (see high) words.old) result words.new }
     {
         let most = match self.types.an_expr(words) {
             Ok(most) => most,
@@ -91,8 +91,8 @@ where
         low: Option<Sub>,
         high: Sub,
     ) -> Result<Sub, ParseError>
-        requires { Nests self.now.types.budget (F.pre self.now.types.part) (F.post self.now.types.part) }
-        ensures { Reads see (spec.second_bound (self.now.types.budget - 1) (readers (self.now.types.budget - 1)) (see of) (see_bound low) (bound_depth low) (see high) words.old) result words.new }
+        requires { Nests self.now.types.room (F.pre self.now.types.part) (F.post self.now.types.part) }
+        ensures { Reads see (spec.second_bound self.now.types.room (readers self.now.types.room) (see of) (see_bound low) (bound_depth low) (see high) words.old) result words.new }
     {
         if words.take(TokenKind::Colon).is_some() {
             return self.third_bound(words, of, low, high);
@@ -109,8 +109,8 @@ where
     // Behind the first ":".
     #[tactic(auto, unfolding(ui_syntax::specs::Exprs::bounds, ui_parse::specs::Reader::take_by))]
     fn bounds(&self, words: &mut Cursor<'_>, of: Sub, low: Option<Sub>) -> Result<Sub, ParseError>
-        requires { Nests self.now.types.budget (F.pre self.now.types.part) (F.post self.now.types.part) }
-        ensures { Reads see (spec.bounds (self.now.types.budget - 1) (readers (self.now.types.budget - 1)) (see of) (see_bound low) (bound_depth low) words.old) result words.new }
+        requires { Nests self.now.types.room (F.pre self.now.types.part) (F.post self.now.types.part) }
+        ensures { Reads see (spec.bounds self.now.types.room (readers self.now.types.room) (see of) (see_bound low) (bound_depth low) words.old) result words.new }
     {
         if words.take(TokenKind::RBracket).is_some() {
             return match self.slice_of(of, low, None, None) {
@@ -126,7 +126,7 @@ where
     }
 
     fn instance_of(&self, of: Sub, args: TypeSubs) -> Result<Sub, NoMemory>
-        ensures { IfOk result (λ s. see s ≡ spec.instance_of (self.now.types.budget - 1) (readers (self.now.types.budget - 1)) (see of) (see_types args)) }
+        ensures { IfOk result (λ s. see s ≡ spec.instance_of self.now.types.room (readers self.now.types.room) (see of) (see_types args)) }
     {
         let spot = of.spot;
         let depth = of.depth.max(args.depth);
@@ -141,8 +141,8 @@ where
     // A comma and more arguments, where the first is a type.
     #[tactic(auto, unfolding(ui_parse::specs::Reader::take_by, ui_parse::specs::Reader::expect))]
     fn instance_behind(&self, words: &mut Cursor<'_>, of: Sub, at: Sub) -> Result<Sub, ParseError>
-        requires { Nests self.now.types.budget (F.pre self.now.types.part) (F.post self.now.types.part) }
-        ensures { Reads see (spec.instance_behind (self.now.types.budget - 1) (readers (self.now.types.budget - 1)) (see of) at.depth (as_type (see at).tree) words.old) result words.new }
+        requires { Nests self.now.types.room (F.pre self.now.types.part) (F.post self.now.types.part) }
+        ensures { Reads see (spec.instance_behind self.now.types.room (readers self.now.types.room) (see of) at.depth (as_type (see at).tree) words.old) result words.new }
     {
         if !is_type(at.tree.get()) {
             return Err(ParseError::Fault);
@@ -165,8 +165,8 @@ where
     // Behind the first part between brackets, which is an expression.
     #[tactic(auto, unfolding(ui_parse::specs::Reader::take_by))]
     fn behind_expr(&self, words: &mut Cursor<'_>, of: Sub, at: Sub) -> Result<Sub, ParseError>
-        requires { Nests self.now.types.budget (F.pre self.now.types.part) (F.post self.now.types.part) }
-        ensures { Reads see (spec.behind_index (self.now.types.budget - 1) (readers (self.now.types.budget - 1)) (see of) (see at) None words.old) result words.new }
+        requires { Nests self.now.types.room (F.pre self.now.types.part) (F.post self.now.types.part) }
+        ensures { Reads see (spec.behind_index self.now.types.room (readers self.now.types.room) (see of) (see at) None words.old) result words.new }
     {
         if words.take(TokenKind::Colon).is_some() {
             return self.bounds(words, of, Some(at));
@@ -190,8 +190,8 @@ where
     // Behind the first part between brackets.
     #[tactic(auto, using(crate::proofs::Alone::alone_is, crate::proofs::Alone::behind_types))]
     fn behind_index(&self, words: &mut Cursor<'_>, of: Sub, at: Sub) -> Result<Sub, ParseError>
-        requires { Nests self.now.types.budget (F.pre self.now.types.part) (F.post self.now.types.part) }
-        ensures { Reads see (spec.behind_index (self.now.types.budget - 1) (readers (self.now.types.budget - 1)) (see of) (see at) (only_type (see at).tree) words.old) result words.new }
+        requires { Nests self.now.types.room (F.pre self.now.types.part) (F.post self.now.types.part) }
+        ensures { Reads see (spec.behind_index self.now.types.room (readers self.now.types.room) (see of) (see at) (only_type (see at).tree) words.old) result words.new }
     {
         if !is_type_alone(at.tree.get()) {
             return self.behind_expr(words, of, at);
@@ -213,8 +213,8 @@ where
     // Behind "[".
     #[tactic(auto, unfolding(ui_syntax::specs::Exprs::indexed, ui_parse::specs::Reader::take_by))]
     pub(crate) fn indexed(&self, words: &mut Cursor<'_>, of: Sub) -> Result<Sub, ParseError>
-        requires { Nests self.now.types.budget (F.pre self.now.types.part) (F.post self.now.types.part) }
-        ensures { Reads see (spec.indexed (self.now.types.budget - 1) (readers (self.now.types.budget - 1)) (see of) words.old) result words.new }
+        requires { Nests self.now.types.room (F.pre self.now.types.part) (F.post self.now.types.part) }
+        ensures { Reads see (spec.indexed self.now.types.room (readers self.now.types.room) (see of) words.old) result words.new }
     {
         if words.take(TokenKind::Colon).is_some() {
             return self.bounds(words, of, None);

@@ -1,6 +1,6 @@
 //! The readers of each budget: a function value that reads parts, and calls itself for theirs.
 
-ghost use Rattle.std.specs.Prelude.{◌≡◌, List};
+ghost use Rattle.std.specs.Prelude.{◌≡◌, suc, List};
 ghost use Rattle.ui_grammar.specs.Word.{Word};
 ghost use Rattle.ui_parse.specs.View.{Reads};
 ghost use Rattle.ui_ptype.specs.Asked.{asked, see_got};
@@ -31,8 +31,8 @@ where
 {
     #[tactic(auto, using(crate::proofs::Budgets::asked_level, crate::proofs::Budgets::asked_level_fault, crate::proofs::Budgets::asked_type, crate::proofs::Budgets::asked_type_fault, crate::proofs::Budgets::asked_braces, crate::proofs::Budgets::asked_braces_fault))]
     fn own_part(&self, words: &mut Cursor<'_>, ask: Ask) -> Result<Got, ParseError>
-        requires { Nests self.now.types.budget (F.pre self.now.types.part) (F.post self.now.types.part) }
-        ensures { Reads see_got (asked self.now.types.budget ask words.old) result words.new }
+        requires { Nests self.now.types.room (F.pre self.now.types.part) (F.post self.now.types.part) }
+        ensures { Reads see_got (asked (suc self.now.types.room) ask words.old) result words.new }
     {
         match ask {
             Ask::Level(site, least) => match self.own_level(words, site, least) {
@@ -52,7 +52,7 @@ where
 }
 
 /// What is asked for, within the budget.
-#[tactic(auto, using(crate::proofs::Budgets::no_budget))]
+#[tactic(auto, using(crate::proofs::Budgets::no_budget, crate::proofs::Budgets::asked_above))]
 pub(crate) fn part(
     alloc: Global,
     words: &mut Cursor<'_>,
@@ -66,7 +66,7 @@ pub(crate) fn part(
     }
     let types = Grammar {
         alloc,
-        budget,
+        room: budget - 1,
         part,
     };
     Exprs { types }.own_part(words, ask)

@@ -1,6 +1,6 @@
 //! Elements of literals, behind the brace. Go specification, "Composite literals".
 
-ghost use Rattle.std.specs.Prelude.{◌≡◌, ◌-◌, IfOk, max};
+ghost use Rattle.std.specs.Prelude.{◌≡◌, IfOk, max};
 ghost use Rattle.ui_syntax.specs.Types.{add};
 ghost use Rattle.ui_tree.specs.Tree.{keyed};
 ghost use Rattle.ui_ptype.specs.Seen.{see, see_all};
@@ -33,10 +33,10 @@ where
     // Expr | Lit
     #[tactic(auto, unfolding(ui_parse::specs::Reader::take_by))]
     fn item(&self, words: &mut Cursor<'_>) -> Result<Sub, ParseError>
-        requires { Nests self.now.types.budget (F.pre self.now.types.part) (F.post self.now.types.part) }
-        ensures { Reads see (spec.item (self.now.types.budget - 1) (readers (self.now.types.budget - 1)) words.old) result words.new }
+        requires { Nests self.now.types.room (F.pre self.now.types.part) (F.post self.now.types.part) }
+        ensures { Reads see (spec.item self.now.types.room (readers self.now.types.room) words.old) result words.new }
     {
-        if self.types.budget < 2 {
+        if self.types.room == 0 {
             return self.types.an_expr(words);
         }
         match words.take(TokenKind::LBrace) {
@@ -57,8 +57,8 @@ where
     // [ Item ":" ] Item
     #[tactic(auto, unfolding(ui_syntax::specs::Exprs::elem, ui_parse::specs::Reader::take_by))]
     fn elem(&self, words: &mut Cursor<'_>, elems: Subs) -> Result<Subs, ParseError>
-        requires { Nests self.now.types.budget (F.pre self.now.types.part) (F.post self.now.types.part) }
-        ensures { Reads see_all (spec.elem (self.now.types.budget - 1) (readers (self.now.types.budget - 1)) (see_all elems) words.old) result words.new }
+        requires { Nests self.now.types.room (F.pre self.now.types.part) (F.post self.now.types.part) }
+        ensures { Reads see_all (spec.elem self.now.types.room (readers self.now.types.room) (see_all elems) words.old) result words.new }
     {
         let first = match self.item(words) {
             Ok(first) => first,
@@ -82,8 +82,8 @@ where
 
     #[tactic(auto, unfolding(ui_syntax::specs::Exprs::braces))]
     pub(crate) fn own_braces(&self, words: &mut Cursor<'_>) -> Result<Subs, ParseError>
-        requires { Nests self.now.types.budget (F.pre self.now.types.part) (F.post self.now.types.part) }
-        ensures { Reads see_all (spec.braces (self.now.types.budget - 1) (readers (self.now.types.budget - 1)) words.old) result words.new }
+        requires { Nests self.now.types.room (F.pre self.now.types.part) (F.post self.now.types.part) }
+        ensures { Reads see_all (spec.braces self.now.types.room (readers self.now.types.room) words.old) result words.new }
     {
         let elems = Subs::new(self.types.alloc);
         parts(

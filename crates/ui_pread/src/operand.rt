@@ -1,6 +1,6 @@
 //! Operands. Go specification, "Operands", "Composite literals", "Conversions".
 
-ghost use Rattle.std.specs.Prelude.{◌≡◌, ◌-◌, IfOk, List, max, suc};
+ghost use Rattle.std.specs.Prelude.{◌≡◌, IfOk, List, max, suc};
 ghost use Rattle.ui_syntax.specs.Exprs.{of_tree};
 ghost use Rattle.ui_tree.specs.Tree.{composite};
 ghost use Rattle.ui_tree.specs.View.{trees};
@@ -46,7 +46,7 @@ where
 {
     // The type alone, where the site takes it; `[...]T` stands before braces only.
     fn alone(&self, site: Site, of: TypeSub) -> Result<Sub, ParseError>
-        ensures { (ws : List Word) → Reads see (spec.alone (self.now.types.budget - 1) (readers (self.now.types.budget - 1)) site (see_type of) ws) result ws }
+        ensures { (ws : List Word) → Reads see (spec.alone self.now.types.room (readers self.now.types.room) site (see_type of) ws) result ws }
     {
         if !takes_types(site) || is_counted(of.tree.get()) {
             return Err(ParseError::Fault);
@@ -61,8 +61,8 @@ where
 
     #[tactic(auto, unfolding(ui_parse::specs::Reader::take_by, ui_parse::specs::Reader::eat))]
     fn convert_or(&self, words: &mut Cursor<'_>, site: Site, of: TypeSub) -> Result<Sub, ParseError>
-        requires { Nests self.now.types.budget (F.pre self.now.types.part) (F.post self.now.types.part) }
-        ensures { Reads see (spec.convert_or (self.now.types.budget - 1) (readers (self.now.types.budget - 1)) site (see_type of) words.old) result words.new }
+        requires { Nests self.now.types.room (F.pre self.now.types.part) (F.post self.now.types.part) }
+        ensures { Reads see (spec.convert_or self.now.types.room (readers self.now.types.room) site (see_type of) words.old) result words.new }
     {
         if is_counted(of.tree.get()) {
             return Err(ParseError::Fault);
@@ -89,8 +89,8 @@ where
 
     // Behind "{".
     pub(crate) fn literal_of(&self, words: &mut Cursor<'_>, of: TypeSub) -> Result<Sub, ParseError>
-        requires { Nests self.now.types.budget (F.pre self.now.types.part) (F.post self.now.types.part) }
-        ensures { Reads see (spec.literal_of (self.now.types.budget - 1) (readers (self.now.types.budget - 1)) (see_type of) words.old) result words.new }
+        requires { Nests self.now.types.room (F.pre self.now.types.part) (F.post self.now.types.part) }
+        ensures { Reads see (spec.literal_of self.now.types.room (readers self.now.types.room) (see_type of) words.old) result words.new }
     {
         let elems = match self.types.nested_braces(words) {
             Ok(elems) => elems,
@@ -110,10 +110,10 @@ where
         site: Site,
         of: TypeSub,
     ) -> Result<Sub, ParseError>
-        requires { Nests self.now.types.budget (F.pre self.now.types.part) (F.post self.now.types.part) }
-        ensures { Reads see (spec.behind_type (self.now.types.budget - 1) (readers (self.now.types.budget - 1)) site (see_type of) words.old) result words.new }
+        requires { Nests self.now.types.room (F.pre self.now.types.part) (F.post self.now.types.part) }
+        ensures { Reads see (spec.behind_type self.now.types.room (readers self.now.types.room) site (see_type of) words.old) result words.new }
     {
-        if of.depth >= self.types.budget {
+        if of.depth > self.types.room {
             return self.alone(site, of);
         }
         if !has_literals(of.tree.get()) {
@@ -131,8 +131,8 @@ where
         site: Site,
         of: Option<TypeSub>,
     ) -> Result<Sub, ParseError>
-        requires { Nests self.now.types.budget (F.pre self.now.types.part) (F.post self.now.types.part) }
-        ensures { Reads see (spec.maybe_behind (self.now.types.budget - 1) (readers (self.now.types.budget - 1)) site (option_map see_type of) words.old) result words.new }
+        requires { Nests self.now.types.room (F.pre self.now.types.part) (F.post self.now.types.part) }
+        ensures { Reads see (spec.maybe_behind self.now.types.room (readers self.now.types.room) site (option_map see_type of) words.old) result words.new }
     {
         match of {
             Some(of) => self.behind_type(words, site, of),
@@ -142,8 +142,8 @@ where
 
     // A type for itself has as much room as an expression, else one level less.
     fn type_operand(&self, words: &mut Cursor<'_>, site: Site) -> Result<Sub, ParseError>
-        requires { Nests self.now.types.budget (F.pre self.now.types.part) (F.post self.now.types.part) }
-        ensures { Reads see (spec.type_operand (self.now.types.budget - 1) (readers (self.now.types.budget - 1)) site words.old) result words.new }
+        requires { Nests self.now.types.room (F.pre self.now.types.part) (F.post self.now.types.part) }
+        ensures { Reads see (spec.type_operand self.now.types.room (readers self.now.types.room) site words.old) result words.new }
     {
         match site {
             Site::Argument => {
@@ -171,8 +171,8 @@ where
         spot: Spot,
         inner: Sub,
     ) -> Result<Sub, ParseError>
-        requires { Nests self.now.types.budget (F.pre self.now.types.part) (F.post self.now.types.part) }
-        ensures { Reads see (spec.enclose (self.now.types.budget - 1) (readers (self.now.types.budget - 1)) site spot (see inner) (only_type (see inner).tree) words.old) result words.new }
+        requires { Nests self.now.types.room (F.pre self.now.types.part) (F.post self.now.types.part) }
+        ensures { Reads see (spec.enclose self.now.types.room (readers self.now.types.room) site spot (see inner) (only_type (see inner).tree) words.old) result words.new }
     {
         let depth = inner.depth;
         if !is_type_alone(inner.tree.get()) {
@@ -208,8 +208,8 @@ where
         site: Site,
         spot: Spot,
     ) -> Result<Sub, ParseError>
-        requires { Nests self.now.types.budget (F.pre self.now.types.part) (F.post self.now.types.part) }
-        ensures { Reads see (spec.parenthesized_operand (self.now.types.budget - 1) (readers (self.now.types.budget - 1)) site spot words.old) result words.new }
+        requires { Nests self.now.types.room (F.pre self.now.types.part) (F.post self.now.types.part) }
+        ensures { Reads see (spec.parenthesized_operand self.now.types.room (readers self.now.types.room) site spot words.old) result words.new }
     {
         let inner = match self.types.level_at(words, inner_site(site), 1) {
             Ok(inner) => inner,
@@ -223,8 +223,8 @@ where
 
     #[tactic(auto, using(crate::proofs::Operands::operand_literal, crate::proofs::Operands::operand_name, crate::proofs::Operands::operand_rest), unfolding(ui_parse::specs::Reader::take_by))]
     pub(crate) fn operand(&self, words: &mut Cursor<'_>, site: Site) -> Result<Sub, ParseError>
-        requires { Nests self.now.types.budget (F.pre self.now.types.part) (F.post self.now.types.part) }
-        ensures { Reads see (spec.operand (self.now.types.budget - 1) (readers (self.now.types.budget - 1)) site words.old) result words.new }
+        requires { Nests self.now.types.room (F.pre self.now.types.part) (F.post self.now.types.part) }
+        ensures { Reads see (spec.operand self.now.types.room (readers self.now.types.room) site words.old) result words.new }
     {
         if let Some(literal) = words.take_literal(self.types.alloc)? {
             let spot = literal.spot;
@@ -235,7 +235,7 @@ where
             let spot = name.spot;
             return Ok(expr_sub(self.types.alloc, ExprTree::name(name), spot, 1)?);
         }
-        if self.types.budget < 2 {
+        if self.types.room == 0 {
             return self.type_operand(words, site);
         }
         match words.take(TokenKind::LParen) {

@@ -1,6 +1,6 @@
 //! Types, signatures and their parts, for the crates above. Go specification, "Types".
 
-ghost use Rattle.std.specs.Prelude.{◌≡◌, ◌-◌, ◌<◌};
+ghost use Rattle.std.specs.Prelude.{◌≡◌};
 ghost use Rattle.ui_parse.specs.View.{Reads};
 ghost use Rattle.ui_ptype.specs.Parts.{tilde_type};
 ghost use Rattle.ui_ptype.specs.Seen.{see, see_type, see_maybe, see_groups, see_results};
@@ -52,110 +52,74 @@ pub fn sig(alloc: Global, words: &mut Cursor<'_>, budget: u32) -> Result<TypeSub
     let spot = words.expect(TokenKind::LParen)?;
     Grammar {
         alloc,
-        budget,
+        room: budget - 1,
         part,
     }
     .sig_type(words, spot)
 }
 
-/// The parameters of a signature within the budget, behind the parenthesis, in groups with one type.
-pub fn params(alloc: Global, words: &mut Cursor<'_>, budget: u32) -> Result<Groups, ParseError>
-    requires { 0 < budget }
-    ensures { Reads see_groups (spec.params (budget - 1) (readers (budget - 1)) words.old) result words.new }
+/// The parameters of a signature whose parts have so much room, behind the parenthesis, in groups with one type.
+pub fn params(alloc: Global, words: &mut Cursor<'_>, room: u32) -> Result<Groups, ParseError>
+    ensures { Reads see_groups (spec.params room (readers room) words.old) result words.new }
 {
-    Grammar {
-        alloc,
-        budget,
-        part,
-    }
-    .params(words)
+    Grammar { alloc, room, part }.params(words)
 }
 
-/// The results of a signature within the budget: a type or a list of results, or none.
+/// The results of a signature whose parts have so much room: a type or a list of results, or none.
 pub fn results(
     alloc: Global,
     words: &mut Cursor<'_>,
-    budget: u32,
+    room: u32,
 ) -> Result<Option<TypeSub>, ParseError>
-    requires { 0 < budget }
-    ensures { Reads (see_results (budget - 1) (readers (budget - 1))) (spec.results (budget - 1) (readers (budget - 1)) words.old) result words.new }
+    ensures { Reads (see_results room (readers room)) (spec.results room (readers room) words.old) result words.new }
 {
-    Grammar {
-        alloc,
-        budget,
-        part,
-    }
-    .results(words)
+    Grammar { alloc, room, part }.results(words)
 }
 
-/// A slice or an array within the budget, behind its bracket.
+/// A slice or an array, behind its bracket.
 pub fn bracket_type(
     alloc: Global,
     words: &mut Cursor<'_>,
-    budget: u32,
+    room: u32,
     site: TypeSite,
     spot: Spot,
 ) -> Result<TypeSub, ParseError>
-    requires { 0 < budget }
-    ensures { Reads see_type (spec.bracket_type (budget - 1) (readers (budget - 1)) site spot words.old) result words.new }
+    ensures { Reads see_type (spec.bracket_type room (readers room) site spot words.old) result words.new }
 {
-    Grammar {
-        alloc,
-        budget,
-        part,
-    }
-    .bracket_type(words, site, spot)
+    Grammar { alloc, room, part }.bracket_type(words, site, spot)
 }
 
-/// A type within the budget, where one begins, as the parts of bounds are read.
+/// A type, where one begins, as the parts of bounds are read.
 pub fn plain_type(
     alloc: Global,
     words: &mut Cursor<'_>,
-    budget: u32,
+    room: u32,
 ) -> Result<Option<TypeSub>, ParseError>
-    requires { 0 < budget }
-    ensures { Reads see_maybe (spec.plain_type (budget - 1) (readers (budget - 1)) words.old) result words.new }
+    ensures { Reads see_maybe (spec.plain_type room (readers room) words.old) result words.new }
 {
-    Grammar {
-        alloc,
-        budget,
-        part,
-    }
-    .plain_type(words)
+    Grammar { alloc, room, part }.plain_type(words)
 }
 
-/// The terms of a union within the budget, behind its first one, as the union of them.
+/// The terms of a union, behind its first one, as the union of them.
 pub fn union_from(
     alloc: Global,
     words: &mut Cursor<'_>,
-    budget: u32,
+    room: u32,
     first: TypeSub,
 ) -> Result<Option<TypeSub>, ParseError>
-    requires { 0 < budget }
-    ensures { Reads see_maybe (spec.union_from (budget - 1) (readers (budget - 1)) (see_type first) words.old) result words.new }
+    ensures { Reads see_maybe (spec.union_from room (readers room) (see_type first) words.old) result words.new }
 {
-    Grammar {
-        alloc,
-        budget,
-        part,
-    }
-    .union_from(words, first)
+    Grammar { alloc, room, part }.union_from(words, first)
 }
 
-/// The type of a term within the budget, behind "~".
+/// The type of a term, behind "~".
 pub fn tilde(
     alloc: Global,
     words: &mut Cursor<'_>,
-    budget: u32,
+    room: u32,
     spot: Spot,
 ) -> Result<TypeSub, ParseError>
-    requires { 0 < budget }
-    ensures { Reads see_type (tilde_type (budget - 1) (readers (budget - 1)) spot words.old) result words.new }
+    ensures { Reads see_type (tilde_type room (readers room) spot words.old) result words.new }
 {
-    Grammar {
-        alloc,
-        budget,
-        part,
-    }
-    .tilde(words, spot)
+    Grammar { alloc, room, part }.tilde(words, spot)
 }

@@ -1,6 +1,6 @@
 //! What follows an operand. Go specification, "Primary expressions".
 
-ghost use Rattle.std.specs.Prelude.{◌≡◌, ◌-◌, ◌<◌, IfOk, suc};
+ghost use Rattle.std.specs.Prelude.{◌≡◌, ◌<◌, IfOk, suc};
 ghost use Rattle.ui_syntax.specs.Exprs.{of_tree};
 ghost use Rattle.ui_tree.specs.Tree.{selector};
 ghost use Rattle.ui_pread.specs.Turns.{see_turn, goes_on, suffix_turn, literal_turn, named_literal};
@@ -39,8 +39,8 @@ where
     F: Fn(Global, &mut Cursor<'_>, u32, Ask) -> Result<Got, ParseError>,
 {
     fn asserted(&self, words: &mut Cursor<'_>, of: Sub) -> Result<Sub, ParseError>
-        requires { Nests self.now.types.budget (F.pre self.now.types.part) (F.post self.now.types.part) }
-        ensures { Reads see (spec.asserted (self.now.types.budget - 1) (readers (self.now.types.budget - 1)) (see of) words.old) result words.new }
+        requires { Nests self.now.types.room (F.pre self.now.types.part) (F.post self.now.types.part) }
+        ensures { Reads see (spec.asserted self.now.types.room (readers self.now.types.room) (see of) words.old) result words.new }
     {
         if let Err(fault) = words.expect(TokenKind::LParen) {
             return Err(fault);
@@ -68,8 +68,8 @@ where
     // Behind ".".
     #[tactic(auto, unfolding(ui_syntax::specs::Exprs::selected, ui_parse::specs::Reader::take_by))]
     fn selected(&self, words: &mut Cursor<'_>, of: Sub) -> Result<Sub, ParseError>
-        requires { Nests self.now.types.budget (F.pre self.now.types.part) (F.post self.now.types.part) }
-        ensures { Reads see (spec.selected (self.now.types.budget - 1) (readers (self.now.types.budget - 1)) (see of) words.old) result words.new }
+        requires { Nests self.now.types.room (F.pre self.now.types.part) (F.post self.now.types.part) }
+        ensures { Reads see (spec.selected self.now.types.room (readers self.now.types.room) (see of) words.old) result words.new }
     {
         match words.take_name(self.types.alloc) {
             Ok(Some(member)) => match selector_of(self.types.alloc, of, member) {
@@ -83,8 +83,8 @@ where
 
     // Behind "{", where the expression is a type's name.
     fn named_literal(&self, words: &mut Cursor<'_>, of: Sub) -> Result<Turn<Sub>, ParseError>
-        requires { Nests self.now.types.budget (F.pre self.now.types.part) (F.post self.now.types.part) }
-        ensures { Reads (see_turn see) (named_literal (self.now.types.budget - 1) (readers (self.now.types.budget - 1)) (see of) words.old) result words.new }
+        requires { Nests self.now.types.room (F.pre self.now.types.part) (F.post self.now.types.part) }
+        ensures { Reads (see_turn see) (named_literal self.now.types.room (readers self.now.types.room) (see of) words.old) result words.new }
     {
         let of = match cover_type(self.types.alloc, words, of) {
             Ok(of) => of,
@@ -104,8 +104,8 @@ where
         site: Site,
         of: Sub,
     ) -> Result<Turn<Sub>, ParseError>
-        requires { Nests self.now.types.budget (F.pre self.now.types.part) (F.post self.now.types.part) }
-        ensures { Reads (see_turn see) (literal_turn (self.now.types.budget - 1) (readers (self.now.types.budget - 1)) site (see of) (if_named (as_type (see of).tree)) words.old) result words.new }
+        requires { Nests self.now.types.room (F.pre self.now.types.part) (F.post self.now.types.part) }
+        ensures { Reads (see_turn see) (literal_turn self.now.types.room (readers self.now.types.room) site (see of) (if_named (as_type (see of).tree)) words.old) result words.new }
     {
         if is_header(site) {
             return Ok(Turn::Done(of));
@@ -127,8 +127,8 @@ where
         site: Site,
         of: Sub,
     ) -> Result<Turn<Sub>, ParseError>
-        requires { Nests self.now.types.budget (F.pre self.now.types.part) (F.post self.now.types.part) }
-        ensures { Reads (see_turn see) (suffix_turn (self.now.types.budget - 1) (readers (self.now.types.budget - 1)) site (see of) words.old) result words.new }
+        requires { Nests self.now.types.room (F.pre self.now.types.part) (F.post self.now.types.part) }
+        ensures { Reads (see_turn see) (suffix_turn self.now.types.room (readers self.now.types.room) site (see of) words.old) result words.new }
     {
         if words.take(TokenKind::Period).is_some() {
             return match self.selected(words, of) {
@@ -153,19 +153,18 @@ where
 
     // Whether something may go on with the tree.
     pub(crate) fn has_room(&self, of: &Sub) -> bool
-        requires { 0 < self.now.types.budget }
-        ensures { result ≡ goes_on (self.now.types.budget - 1) (see of.now) }
+        ensures { result ≡ goes_on self.now.types.room (see of.now) }
     {
-        !is_type_alone(of.tree.get()) && of.depth < self.types.budget
+        !is_type_alone(of.tree.get()) && of.depth <= self.types.room
     }
 
     fn suffixes(&self, words: &mut Cursor<'_>, site: Site, of: Sub) -> Result<Sub, ParseError>
-        requires { Nests self.now.types.budget (F.pre self.now.types.part) (F.post self.now.types.part) }
-        ensures { Reads see (spec.suffixes (self.now.types.budget - 1) (readers (self.now.types.budget - 1)) site (suc self.now.types.budget) (see of) words.old) result words.new }
+        requires { Nests self.now.types.room (F.pre self.now.types.part) (F.post self.now.types.part) }
+        ensures { Reads see (spec.suffixes self.now.types.room (readers self.now.types.room) site (suc (suc self.now.types.room)) (see of) words.old) result words.new }
     {
         let mut of = of;
         // Each turn makes the tree deeper.
-        let mut turns = self.types.budget;
+        let mut turns = self.types.room as u64 + 1;
         while self.has_room(&of) {
             match self.one_suffix(words, site, of) {
                 Ok(Turn::Done(last)) => return Ok(last),
@@ -182,8 +181,8 @@ where
 
     #[tactic(auto, unfolding(ui_syntax::specs::Exprs::primary))]
     pub(crate) fn primary(&self, words: &mut Cursor<'_>, site: Site) -> Result<Sub, ParseError>
-        requires { Nests self.now.types.budget (F.pre self.now.types.part) (F.post self.now.types.part) }
-        ensures { Reads see (spec.primary (self.now.types.budget - 1) (readers (self.now.types.budget - 1)) site words.old) result words.new }
+        requires { Nests self.now.types.room (F.pre self.now.types.part) (F.post self.now.types.part) }
+        ensures { Reads see (spec.primary self.now.types.room (readers self.now.types.room) site words.old) result words.new }
     {
         let of = match self.operand(words, site) {
             Ok(of) => of,

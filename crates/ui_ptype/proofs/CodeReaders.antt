@@ -1,4 +1,4 @@
--- The readers of the next lower budget, and types that begin as operands do.
+-- The readers of one level less, and types that begin as operands do.
 use Rattle.std.proofs.Common.{◌≡◌, ℕ, zero, suc, ◌-◌, Bool, true, false, cond, List, Option, Some, None, Result, Ok, Err, refl, sym, ap, subst, ◌∙◌, arith}
 use Rattle.std.specs.Prelude.{nat_le}
 use Rattle.ui_scan.specs.declared.kind.TokenKind.TheVariants.{LBracket, Map, Func, Struct, Interface}
@@ -22,20 +22,18 @@ unfolding readers
 lower_at zero s least ws = refl
 lower_at (suc d) s least ws = let e : suc d - 1 ≡ d = omega arith in sym (ap (λ (k : ℕ). (readers k).level s least ws) e)
 
-pub reads_lower : (b k : ℕ) (s : Site) (least : ℕ) (ws : List Word) (r : Result Sub ParseError) (left : List Word) → k ≡ b - 2 → Reads see ((readers k).level s least ws) r left → Reads see ((readers (b - 1)).lower_level s least ws) r left
+pub reads_lower : (b k : ℕ) (s : Site) (least : ℕ) (ws : List Word) (r : Result Sub ParseError) (left : List Word) → k ≡ b - 1 → Reads see ((readers k).level s least ws) r left → Reads see ((readers b).lower_level s least ws) r left
 reads_lower b k s least ws r left e h =
-    let same : k ≡ (b - 1) - 1 = omega (arith, e) in
-    subst (λ (o : Outcome (Read Tree)). Reads see o r left) (ap (λ (d : ℕ). (readers d).level s least ws) same ∙ sym (lower_at (b - 1) s least ws)) h
+    subst (λ (o : Outcome (Read Tree)). Reads see o r left) (ap (λ (d : ℕ). (readers d).level s least ws) e ∙ sym (lower_at b s least ws)) h
 
 lower_type_at : (b : ℕ) (p : TypeSite) (ws : List Word) → (readers b).lower_maybe_type p ws ≡ (readers (b - 1)).maybe_type p ws
 unfolding readers
 lower_type_at zero p ws = refl
 lower_type_at (suc d) p ws = let e : suc d - 1 ≡ d = omega arith in sym (ap (λ (k : ℕ). (readers k).maybe_type p ws) e)
 
-pub reads_lower_type : (b k : ℕ) (p : TypeSite) (ws : List Word) (r : Result (Option TypeSub) ParseError) (left : List Word) → k ≡ b - 2 → Reads see_maybe ((readers k).maybe_type p ws) r left → Reads see_maybe ((readers (b - 1)).lower_maybe_type p ws) r left
+pub reads_lower_type : (b k : ℕ) (p : TypeSite) (ws : List Word) (r : Result (Option TypeSub) ParseError) (left : List Word) → k ≡ b - 1 → Reads see_maybe ((readers k).maybe_type p ws) r left → Reads see_maybe ((readers b).lower_maybe_type p ws) r left
 reads_lower_type b k p ws r left e h =
-    let same : k ≡ (b - 1) - 1 = omega (arith, e) in
-    subst (λ (o : Outcome (Option (Read TypeTree))). Reads see_maybe o r left) (ap (λ (d : ℕ). (readers d).maybe_type p ws) same ∙ sym (lower_type_at (b - 1) p ws)) h
+    subst (λ (o : Outcome (Option (Read TypeTree))). Reads see_maybe o r left) (ap (λ (d : ℕ). (readers d).maybe_type p ws) e ∙ sym (lower_type_at b p ws)) h
 
 -- ---- types that begin as operands do, or as others
 

@@ -1,5 +1,5 @@
 -- What code reads on each branch, as its readers do: for proofs here and in the crates above.
-use Rattle.std.proofs.Common.{◌≡◌, ℕ, suc, ◌-◌, ◌<◌, ◌≤◌, Bool, true, false, cond, List, Option, Some, None, is_some, Result, refl, sym, ap, subst, ◌∙◌, arith}
+use Rattle.std.proofs.Common.{◌≡◌, ℕ, Bool, true, false, cond, List, Option, Some, None, is_some, Result, refl, sym, ap, subst, ◌∙◌, arith}
 use Rattle.std.specs.Prelude.{nat_le}
 use Rattle.std.proofs.lemmas.Bool.{le-leb, lt-leb}
 use Rattle.ui_grammar.specs.Word.{Word}
@@ -11,21 +11,11 @@ use Rattle.ui_syntax.specs.Exprs.{is_some as holds_some}
 
 -- ---- room
 
-pub room_for : (k b : ℕ) → k < b → nat_le k (b - 1) ≡ true
-room_for k b lt = le-leb _ _ (omega arith)
+pub some_room : (room : ℕ) → (room ≡ 0 → ⊥) → nat_le 1 room ≡ true
+some_room room some = le-leb _ _ (omega (arith, some))
 
-pub no_room : (k b : ℕ) → 0 < b → b ≤ k → nat_le k (b - 1) ≡ false
-no_room k b pos le = lt-leb _ _ (omega arith)
-
-pub two_levels : (b : ℕ) → 2 ≤ b → nat_le 1 (b - 1) ≡ true
-two_levels b le = le-leb _ _ (omega arith)
-
-pub one_level : (b : ℕ) → b < 2 → nat_le 1 (b - 1) ≡ false
-one_level b lt = lt-leb _ _ (omega arith)
-
--- the budget is one above the room of the parts
-pub one_above : (b : ℕ) → 0 < b → b ≡ suc (b - 1)
-one_above b pos = omega arith
+pub no_room : (room : ℕ) → room ≡ 0 → nat_le 1 room ≡ false
+no_room room none = lt-leb _ _ (omega (arith, none))
 
 -- ---- options, by the test
 

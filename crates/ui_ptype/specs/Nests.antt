@@ -1,5 +1,5 @@
--- A function value that reads within any budget below a bound.
-use Rattle.std.specs.Prelude.{ℕ, ◌<◌, List, Result}
+-- A function value that reads within each budget up to the room.
+use Rattle.std.specs.Prelude.{ℕ, ◌≤◌, List, Result}
 use Rattle.std.specs.declared.alloc.Global.{Global}
 use denote.Ref.{MutBor}
 use Rattle.ui_grammar.specs.Word.{Word}
@@ -9,10 +9,9 @@ use Rattle.ui_ptype.specs.declared.nested.Ask.{Ask}
 use Rattle.ui_ptype.specs.declared.nested.Got.{Got}
 use Rattle.ui_ptype.specs.Asked.{asked, see_got}
 
-pub record Nests (bound : ℕ)
+pub record Nests (room : ℕ)
     (pre : Global → MutBor (List Word) → ℕ → Ask → Type 0)
     (post : Global → MutBor (List Word) → ℕ → Ask → Result Got ParseError → MutBor (List Word) → Type 0) : Type 0 where
-  pub positive : 0 < bound
-  pub callable : (alloc : Global) (old : MutBor (List Word)) (budget : ℕ) (ask : Ask) → budget < bound → pre alloc old budget ask
-  pub reads : (alloc : Global) (old new : MutBor (List Word)) (budget : ℕ) (ask : Ask) (r : Result Got ParseError) → budget < bound → post alloc old budget ask r new
+  pub callable : (alloc : Global) (old : MutBor (List Word)) (budget : ℕ) (ask : Ask) → budget ≤ room → pre alloc old budget ask
+  pub reads : (alloc : Global) (old new : MutBor (List Word)) (budget : ℕ) (ask : Ask) (r : Result Got ParseError) → budget ≤ room → post alloc old budget ask r new
       → Reads see_got (asked budget ask old.now) r new.now

@@ -1,6 +1,6 @@
 //! The entries of lists of parameters. Go specification, "Function types".
 
-ghost use Rattle.std.specs.Prelude.{◌≡◌, ◌-◌};
+ghost use Rattle.std.specs.Prelude.{◌≡◌};
 ghost use Rattle.ui_parse.specs.Reader as reader;
 ghost use Rattle.ui_scan.specs.declared.kind.TokenKind.TheVariants.{Comma, RParen};
 ghost use Rattle.ui_syntax.specs.Cover.{as_type, only_type};
@@ -47,8 +47,8 @@ where
         name: Placed,
         cover: Sub,
     ) -> Result<Params, ParseError>
-        requires { Nests self.now.budget (F.pre self.now.part) (F.post self.now.part) }
-        ensures { Reads see_params (spec.add_argument (self.now.budget - 1) (readers (self.now.budget - 1)) (see_params params) name (as_type (see cover).tree) cover.depth words.old) result words.new }
+        requires { Nests self.now.room (F.pre self.now.part) (F.post self.now.part) }
+        ensures { Reads see_params (spec.add_argument self.now.room (readers self.now.room) (see_params params) name (as_type (see cover).tree) cover.depth words.old) result words.new }
     {
         if !is_type(cover.tree.get()) {
             return Err(ParseError::Fault);
@@ -80,8 +80,8 @@ where
         spot: Spot,
         cover: Sub,
     ) -> Result<Params, ParseError>
-        requires { Nests self.now.budget (F.pre self.now.part) (F.post self.now.part) }
-        ensures { Reads see_params (spec.behind_bracket (self.now.budget - 1) (readers (self.now.budget - 1)) (see_params params) name spot (see cover) (only_type (see cover).tree) words.old) result words.new }
+        requires { Nests self.now.room (F.pre self.now.part) (F.post self.now.part) }
+        ensures { Reads see_params (spec.behind_bracket self.now.room (readers self.now.room) (see_params params) name spot (see cover) (only_type (see cover).tree) words.old) result words.new }
     {
         if is_type_alone(cover.tree.get()) {
             return self.add_argument(words, params, name, cover);
@@ -117,8 +117,8 @@ where
         spot: Spot,
         cover: Sub,
     ) -> Result<Params, ParseError>
-        requires { Nests self.now.budget (F.pre self.now.part) (F.post self.now.part) }
-        ensures { Reads see_params (spec.behind_cover (self.now.budget - 1) (readers (self.now.budget - 1)) (see_params params) name spot (see cover) (as_type (see cover).tree) words.old) result words.new }
+        requires { Nests self.now.room (F.pre self.now.part) (F.post self.now.part) }
+        ensures { Reads see_params (spec.behind_cover self.now.room (readers self.now.room) (see_params params) name spot (see cover) (as_type (see cover).tree) words.old) result words.new }
     {
         if is_type(cover.tree.get()) && words.take(TokenKind::Comma).is_some() {
             let first = match cover_type(self.alloc, words, cover) {
@@ -153,8 +153,8 @@ where
         name: Placed,
         spot: Spot,
     ) -> Result<Params, ParseError>
-        requires { Nests self.now.budget (F.pre self.now.part) (F.post self.now.part) }
-        ensures { Reads see_params (spec.bracketed (self.now.budget - 1) (readers (self.now.budget - 1)) (see_params params) name spot words.old) result words.new }
+        requires { Nests self.now.room (F.pre self.now.part) (F.post self.now.part) }
+        ensures { Reads see_params (spec.bracketed self.now.room (readers self.now.room) (see_params params) name spot words.old) result words.new }
     {
         if words.take(TokenKind::RBracket).is_some() {
             let of = match self.a_lower_type(words) {
@@ -184,8 +184,8 @@ where
         params: Params,
         name: Placed,
     ) -> Result<Params, ParseError>
-        requires { Nests self.now.budget (F.pre self.now.part) (F.post self.now.part) }
-        ensures { Reads see_params (spec.maybe_named (self.now.budget - 1) (readers (self.now.budget - 1)) (see_params params) name words.old) result words.new }
+        requires { Nests self.now.room (F.pre self.now.part) (F.post self.now.part) }
+        ensures { Reads see_params (spec.maybe_named self.now.room (readers self.now.room) (see_params params) name words.old) result words.new }
     {
         match self.type_at(words, TypeSite::Plain) {
             Ok(Some(of)) => match params.add_named(self.alloc, name, of) {
@@ -207,14 +207,14 @@ where
         params: Params,
         name: Placed,
     ) -> Result<Params, ParseError>
-        requires { Nests self.now.budget (F.pre self.now.part) (F.post self.now.part) }
-        ensures { Reads see_params (spec.qualified (self.now.budget - 1) (readers (self.now.budget - 1)) (see_params params) name words.old) result words.new }
+        requires { Nests self.now.room (F.pre self.now.part) (F.post self.now.part) }
+        ensures { Reads see_params (spec.qualified self.now.room (readers self.now.room) (see_params params) name words.old) result words.new }
     {
         let member = match words.expect_name(self.alloc) {
             Ok(member) => member,
             Err(fault) => return Err(fault),
         };
-        let of = match self.maybe_args(words, self.budget - 1, true, name, Some(member)) {
+        let of = match self.maybe_args(words, self.room as u64, true, name, Some(member)) {
             Ok(of) => of,
             Err(fault) => return Err(fault),
         };
@@ -232,10 +232,10 @@ where
         params: Params,
         name: Placed,
     ) -> Result<Params, ParseError>
-        requires { Nests self.now.budget (F.pre self.now.part) (F.post self.now.part) }
-        ensures { Reads see_params (spec.open_name (self.now.budget - 1) (readers (self.now.budget - 1)) (see_params params) name words.old) result words.new }
+        requires { Nests self.now.room (F.pre self.now.part) (F.post self.now.part) }
+        ensures { Reads see_params (spec.open_name self.now.room (readers self.now.room) (see_params params) name words.old) result words.new }
     {
-        if self.budget < 3 {
+        if self.room < 2 {
             return self.maybe_named(words, params, name);
         }
         if words.take(TokenKind::Period).is_some() {
@@ -248,8 +248,8 @@ where
     }
 
     fn bare_param(&self, words: &mut Cursor<'_>, params: Params) -> Result<Params, ParseError>
-        requires { Nests self.now.budget (F.pre self.now.part) (F.post self.now.part) }
-        ensures { Reads see_params (spec.bare_param (self.now.budget - 1) (readers (self.now.budget - 1)) (see_params params) words.old) result words.new }
+        requires { Nests self.now.room (F.pre self.now.part) (F.post self.now.part) }
+        ensures { Reads see_params (spec.bare_param self.now.room (readers self.now.room) (see_params params) words.old) result words.new }
     {
         let of = match self.a_type(words) {
             Ok(of) => of,
@@ -264,10 +264,10 @@ where
     // [ name ] Type
     #[tactic(auto, unfolding(ui_syntax::specs::Types::param, ui_parse::specs::Reader::take_by))]
     fn param(&self, words: &mut Cursor<'_>, params: Params) -> Result<Params, ParseError>
-        requires { Nests self.now.budget (F.pre self.now.part) (F.post self.now.part) }
-        ensures { Reads see_params (spec.param (self.now.budget - 1) (readers (self.now.budget - 1)) (see_params params) words.old) result words.new }
+        requires { Nests self.now.room (F.pre self.now.part) (F.post self.now.part) }
+        ensures { Reads see_params (spec.param self.now.room (readers self.now.room) (see_params params) words.old) result words.new }
     {
-        if self.budget < 2 {
+        if self.room == 0 {
             return Err(ParseError::Fault);
         }
         match params.style {
@@ -286,8 +286,8 @@ where
     }
 
     fn param_list(&self, words: &mut Cursor<'_>) -> Result<Params, ParseError>
-        requires { Nests self.now.budget (F.pre self.now.part) (F.post self.now.part) }
-        ensures { Reads see_params (reader.parts Comma RParen spec.params_ending (spec.param (self.now.budget - 1) (readers (self.now.budget - 1))) spec.no_params words.old) result words.new }
+        requires { Nests self.now.room (F.pre self.now.part) (F.post self.now.part) }
+        ensures { Reads see_params (reader.parts Comma RParen spec.params_ending (spec.param self.now.room (readers self.now.room)) spec.no_params words.old) result words.new }
     {
         let params = Params::new(self.alloc);
         parts(
@@ -302,8 +302,8 @@ where
     /// [ Param { "," Param } [ "," ] ] ")", in groups with one type.
     #[tactic(auto, unfolding(ui_syntax::specs::Types::params))]
     pub fn params(&self, words: &mut Cursor<'_>) -> Result<Groups, ParseError>
-        requires { Nests self.now.budget (F.pre self.now.part) (F.post self.now.part) }
-        ensures { Reads see_groups (spec.params (self.now.budget - 1) (readers (self.now.budget - 1)) words.old) result words.new }
+        requires { Nests self.now.room (F.pre self.now.part) (F.post self.now.part) }
+        ensures { Reads see_groups (spec.params self.now.room (readers self.now.room) words.old) result words.new }
     {
         let params = match self.param_list(words) {
             Ok(params) => params,

@@ -1,6 +1,6 @@
-//! The readers of a budget, over a function value that reads with a smaller one.
+//! The readers of trees whose parts have so much room, over a function value that reads parts.
 
-ghost use Rattle.std.specs.Prelude.{◌≡◌, ◌-◌, ◌<◌};
+ghost use Rattle.std.specs.Prelude.{◌≡◌, ◌≤◌};
 ghost use Rattle.ui_parse.specs.View.{Reads};
 ghost use Rattle.ui_syntax.specs.Types as spec;
 ghost use Rattle.ui_syntax.specs.Exprs as exprs;
@@ -16,14 +16,14 @@ use std::alloc::Global;
 use ui_parse::{Cursor, ParseError};
 use ui_syntax::{Site, TypeSite};
 
-/// How deep a tree may be, and what reads its parts.
+/// How deep the parts of a tree may be, one level less than the tree, and what reads them.
 #[derive(Clone, Copy)]
 pub struct Grammar<F>
 where
     F: Fn(Global, &mut Cursor<'_>, u32, Ask) -> Result<Got, ParseError>,
 {
     pub alloc: Global,
-    pub budget: u32,
+    pub room: u32,
     pub part: F,
 }
 
@@ -39,8 +39,8 @@ where
         site: Site,
         least: u8,
     ) -> Result<Sub, ParseError>
-        requires nests { Nests self.now.budget (F.pre self.now.part) (F.post self.now.part) }
-        requires below { budget < self.now.budget }
+        requires nests { Nests self.now.room (F.pre self.now.part) (F.post self.now.part) }
+        requires within { budget ≤ self.now.room }
         ensures { Reads see ((readers budget).level site least words.old) result words.new }
     {
         match (self.part)(self.alloc, words, budget, Ask::Level(site, least)) {
@@ -56,8 +56,8 @@ where
         budget: u32,
         site: TypeSite,
     ) -> Result<Option<TypeSub>, ParseError>
-        requires nests { Nests self.now.budget (F.pre self.now.part) (F.post self.now.part) }
-        requires below { budget < self.now.budget }
+        requires nests { Nests self.now.room (F.pre self.now.part) (F.post self.now.part) }
+        requires within { budget ≤ self.now.room }
         ensures { Reads see_maybe ((readers budget).maybe_type site words.old) result words.new }
     {
         match (self.part)(self.alloc, words, budget, Ask::MaybeType(site)) {
@@ -68,13 +68,13 @@ where
 
     /// An expression of one level less, whose operators bind at least so tightly.
     pub fn level_at(&self, words: &mut Cursor<'_>, site: Site, least: u8) -> Result<Sub, ParseError>
-        requires { Nests self.now.budget (F.pre self.now.part) (F.post self.now.part) }
-        ensures { Reads see ((readers (self.now.budget - 1)).level site least words.old) result words.new }
+        requires { Nests self.now.room (F.pre self.now.part) (F.post self.now.part) }
+        ensures { Reads see ((readers self.now.room).level site least words.old) result words.new }
     {
-        self.level_within(words, self.budget - 1, site, least)
+        self.level_within(words, self.room, site, least)
     }
 
-    // The next lower budget than that of the parts: nothing where there is none.
+    // One level less than the parts have: nothing where they have none.
     #[tactic(auto, using(crate::proofs::CodeReaders::reads_lower))]
     pub(crate) fn lower_level(
         &self,
@@ -82,10 +82,10 @@ where
         site: Site,
         least: u8,
     ) -> Result<Sub, ParseError>
-        requires { Nests self.now.budget (F.pre self.now.part) (F.post self.now.part) }
-        ensures { Reads see ((readers (self.now.budget - 1)).lower_level site least words.old) result words.new }
+        requires { Nests self.now.room (F.pre self.now.part) (F.post self.now.part) }
+        ensures { Reads see ((readers self.now.room).lower_level site least words.old) result words.new }
     {
-        self.level_within(words, self.budget.saturating_sub(2), site, least)
+        self.level_within(words, self.room.saturating_sub(1), site, least)
     }
 
     /// A type of one level less, where one begins.
@@ -94,10 +94,10 @@ where
         words: &mut Cursor<'_>,
         site: TypeSite,
     ) -> Result<Option<TypeSub>, ParseError>
-        requires { Nests self.now.budget (F.pre self.now.part) (F.post self.now.part) }
-        ensures { Reads see_maybe ((readers (self.now.budget - 1)).maybe_type site words.old) result words.new }
+        requires { Nests self.now.room (F.pre self.now.part) (F.post self.now.part) }
+        ensures { Reads see_maybe ((readers self.now.room).maybe_type site words.old) result words.new }
     {
-        self.type_within(words, self.budget - 1, site)
+        self.type_within(words, self.room, site)
     }
 
     #[tactic(auto, using(crate::proofs::CodeReaders::reads_lower_type))]
@@ -105,16 +105,16 @@ where
         &self,
         words: &mut Cursor<'_>,
     ) -> Result<Option<TypeSub>, ParseError>
-        requires { Nests self.now.budget (F.pre self.now.part) (F.post self.now.part) }
-        ensures { Reads see_maybe ((readers (self.now.budget - 1)).lower_maybe_type at.Plain words.old) result words.new }
+        requires { Nests self.now.room (F.pre self.now.part) (F.post self.now.part) }
+        ensures { Reads see_maybe ((readers self.now.room).lower_maybe_type at.Plain words.old) result words.new }
     {
-        self.type_within(words, self.budget.saturating_sub(2), TypeSite::Plain)
+        self.type_within(words, self.room.saturating_sub(1), TypeSite::Plain)
     }
 
     /// A type of one level less.
     pub fn a_type(&self, words: &mut Cursor<'_>) -> Result<TypeSub, ParseError>
-        requires { Nests self.now.budget (F.pre self.now.part) (F.post self.now.part) }
-        ensures { Reads see_type (spec.a_type (self.now.budget - 1) (readers (self.now.budget - 1)) words.old) result words.new }
+        requires { Nests self.now.room (F.pre self.now.part) (F.post self.now.part) }
+        ensures { Reads see_type (spec.a_type self.now.room (readers self.now.room) words.old) result words.new }
     {
         match self.type_at(words, TypeSite::Plain) {
             Ok(Some(of)) => Ok(of),
@@ -124,8 +124,8 @@ where
     }
 
     pub(crate) fn a_lower_type(&self, words: &mut Cursor<'_>) -> Result<TypeSub, ParseError>
-        requires { Nests self.now.budget (F.pre self.now.part) (F.post self.now.part) }
-        ensures { Reads see_type (spec.a_lower_type (self.now.budget - 1) (readers (self.now.budget - 1)) words.old) result words.new }
+        requires { Nests self.now.room (F.pre self.now.part) (F.post self.now.part) }
+        ensures { Reads see_type (spec.a_lower_type self.now.room (readers self.now.room) words.old) result words.new }
     {
         match self.maybe_lower_type(words) {
             Ok(Some(of)) => Ok(of),
@@ -135,8 +135,8 @@ where
     }
 
     pub(crate) fn type_in(&self, words: &mut Cursor<'_>, lower: bool) -> Result<TypeSub, ParseError>
-        requires { Nests self.now.budget (F.pre self.now.part) (F.post self.now.part) }
-        ensures { Reads see_type (type_in (self.now.budget - 1) (readers (self.now.budget - 1)) lower words.old) result words.new }
+        requires { Nests self.now.room (F.pre self.now.part) (F.post self.now.part) }
+        ensures { Reads see_type (type_in self.now.room (readers self.now.room) lower words.old) result words.new }
     {
         if lower {
             self.a_lower_type(words)
@@ -146,8 +146,8 @@ where
     }
 
     pub(crate) fn an_element(&self, words: &mut Cursor<'_>) -> Result<TypeSub, ParseError>
-        requires { Nests self.now.budget (F.pre self.now.part) (F.post self.now.part) }
-        ensures { Reads see_type (spec.an_element (self.now.budget - 1) (readers (self.now.budget - 1)) words.old) result words.new }
+        requires { Nests self.now.room (F.pre self.now.part) (F.post self.now.part) }
+        ensures { Reads see_type (spec.an_element self.now.room (readers self.now.room) words.old) result words.new }
     {
         match self.type_at(words, TypeSite::Element) {
             Ok(Some(of)) => Ok(of),
@@ -158,8 +158,8 @@ where
 
     /// An expression of one level less.
     pub fn an_expr(&self, words: &mut Cursor<'_>) -> Result<Sub, ParseError>
-        requires { Nests self.now.budget (F.pre self.now.part) (F.post self.now.part) }
-        ensures { Reads see (exprs.an_expr (self.now.budget - 1) (readers (self.now.budget - 1)) words.old) result words.new }
+        requires { Nests self.now.room (F.pre self.now.part) (F.post self.now.part) }
+        ensures { Reads see (exprs.an_expr self.now.room (readers self.now.room) words.old) result words.new }
     {
         self.level_at(words, Site::Plain, 1)
     }
@@ -167,10 +167,10 @@ where
     /// The elements of a literal of one level less, behind its brace.
     #[tactic(auto, using(crate::proofs::AskedReads::are_braces, crate::proofs::AskedReads::braces_read, crate::proofs::AskedReads::braces_fault))]
     pub fn nested_braces(&self, words: &mut Cursor<'_>) -> Result<Subs, ParseError>
-        requires { Nests self.now.budget (F.pre self.now.part) (F.post self.now.part) }
-        ensures { Reads see_all ((readers (self.now.budget - 1)).braces words.old) result words.new }
+        requires { Nests self.now.room (F.pre self.now.part) (F.post self.now.part) }
+        ensures { Reads see_all ((readers self.now.room).braces words.old) result words.new }
     {
-        match (self.part)(self.alloc, words, self.budget - 1, Ask::Braces) {
+        match (self.part)(self.alloc, words, self.room, Ask::Braces) {
             Ok(got) => Ok(got.into_braces()),
             Err(fault) => Err(fault),
         }

@@ -1,4 +1,4 @@
-//! What is read within a smaller budget, as a function value is asked for it.
+//! What is read within some budget of depth, as a function value is asked for it.
 
 ghost use Rattle.std.specs.Prelude.{◌≡◌};
 ghost use Rattle.ui_ptype.specs.Asked.{IsLevel, IsMaybeType, AreBraces};

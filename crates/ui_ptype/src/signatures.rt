@@ -1,6 +1,6 @@
 //! Results and signatures. Go specification, "Function types".
 
-ghost use Rattle.std.specs.Prelude.{◌≡◌, ◌-◌};
+ghost use Rattle.std.specs.Prelude.{◌≡◌};
 ghost use Rattle.std.specs.Option.{option_map};
 ghost use Rattle.ui_tree.specs.View.{type_view, maybe_type};
 ghost use Rattle.ui_ptype.specs.Seen.{see_type, see_results, results_tree, results_depth};
@@ -43,8 +43,8 @@ where
     /// [ Type | Params ]. Parameters are a list of results, which only a signature has.
     #[tactic(auto, unfolding(ui_syntax::specs::Types::results, ui_parse::specs::Reader::take_by))]
     pub fn results(&self, words: &mut Cursor<'_>) -> Result<Option<TypeSub>, ParseError>
-        requires { Nests self.now.budget (F.pre self.now.part) (F.post self.now.part) }
-        ensures { Reads (see_results (self.now.budget - 1) (readers (self.now.budget - 1))) (spec.results (self.now.budget - 1) (readers (self.now.budget - 1)) words.old) result words.new }
+        requires { Nests self.now.room (F.pre self.now.part) (F.post self.now.part) }
+        ensures { Reads (see_results self.now.room (readers self.now.room)) (spec.results self.now.room (readers self.now.room) words.old) result words.new }
     {
         if let Some(spot) = words.take(TokenKind::LParen) {
             let Groups { items, depth } = match self.params(words) {
@@ -62,8 +62,8 @@ where
     /// The func type of a signature, behind its parenthesis.
     #[tactic(auto, unfolding(ui_syntax::specs::Types::signature))]
     pub fn sig_type(&self, words: &mut Cursor<'_>, spot: Spot) -> Result<TypeSub, ParseError>
-        requires { Nests self.now.budget (F.pre self.now.part) (F.post self.now.part) }
-        ensures { Reads see_type (spec.signature (self.now.budget - 1) (readers (self.now.budget - 1)) (spec.func_of (self.now.budget - 1) (readers (self.now.budget - 1)) spot) words.old) result words.new }
+        requires { Nests self.now.room (F.pre self.now.part) (F.post self.now.part) }
+        ensures { Reads see_type (spec.signature self.now.room (readers self.now.room) (spec.func_of self.now.room (readers self.now.room) spot) words.old) result words.new }
     {
         let params = match self.params(words) {
             Ok(params) => params,
@@ -87,8 +87,8 @@ where
 
     #[tactic(auto, unfolding(ui_syntax::specs::Types::signature))]
     pub(crate) fn method(&self, words: &mut Cursor<'_>, name: Placed) -> Result<TypeSub, ParseError>
-        requires { Nests self.now.budget (F.pre self.now.part) (F.post self.now.part) }
-        ensures { Reads see_type (spec.signature (self.now.budget - 1) (readers (self.now.budget - 1)) (spec.method_of (self.now.budget - 1) (readers (self.now.budget - 1)) name) words.old) result words.new }
+        requires { Nests self.now.room (F.pre self.now.part) (F.post self.now.part) }
+        ensures { Reads see_type (spec.signature self.now.room (readers self.now.room) (spec.method_of self.now.room (readers self.now.room) name) words.old) result words.new }
     {
         let params = match self.params(words) {
             Ok(params) => params,
@@ -116,8 +116,8 @@ where
         words: &mut Cursor<'_>,
         spot: Spot,
     ) -> Result<TypeSub, ParseError>
-        requires { Nests self.now.budget (F.pre self.now.part) (F.post self.now.part) }
-        ensures { Reads see_type (spec.func_type (self.now.budget - 1) (readers (self.now.budget - 1)) spot words.old) result words.new }
+        requires { Nests self.now.room (F.pre self.now.part) (F.post self.now.part) }
+        ensures { Reads see_type (spec.func_type self.now.room (readers self.now.room) spot words.old) result words.new }
     {
         words.expect(TokenKind::LParen)?;
         self.sig_type(words, spot)

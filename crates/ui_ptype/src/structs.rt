@@ -1,6 +1,6 @@
 //! Structs and interfaces, behind the keyword. Go specification, "Struct types" and "Interface types".
 
-ghost use Rattle.std.specs.Prelude.{◌≡◌, ◌-◌};
+ghost use Rattle.std.specs.Prelude.{◌≡◌};
 ghost use Rattle.ui_parse.specs.Names as the_names;
 ghost use Rattle.ui_parse.specs.Reader as reader;
 ghost use Rattle.ui_scan.specs.declared.kind.TokenKind.TheVariants.{Semi, RBrace};
@@ -39,10 +39,10 @@ where
     // Names Type
     #[tactic(auto, unfolding(ui_syntax::specs::Types::field))]
     fn field(&self, words: &mut Cursor<'_>, fields: Groups) -> Result<Groups, ParseError>
-        requires { Nests self.now.budget (F.pre self.now.part) (F.post self.now.part) }
-        ensures { Reads see_groups (spec.field (self.now.budget - 1) (readers (self.now.budget - 1)) (see_groups fields) words.old) result words.new }
+        requires { Nests self.now.room (F.pre self.now.part) (F.post self.now.part) }
+        ensures { Reads see_groups (spec.field self.now.room (readers self.now.room) (see_groups fields) words.old) result words.new }
     {
-        if self.budget < 2 {
+        if self.room == 0 {
             return Err(ParseError::Fault);
         }
         let names = match name_list(self.alloc, words) {
@@ -60,8 +60,8 @@ where
     }
 
     fn field_list(&self, words: &mut Cursor<'_>) -> Result<Groups, ParseError>
-        requires { Nests self.now.budget (F.pre self.now.part) (F.post self.now.part) }
-        ensures { Reads see_groups (reader.parts Semi RBrace spec.any_end (spec.field (self.now.budget - 1) (readers (self.now.budget - 1))) spec.empty words.old) result words.new }
+        requires { Nests self.now.room (F.pre self.now.part) (F.post self.now.part) }
+        ensures { Reads see_groups (reader.parts Semi RBrace spec.any_end (spec.field self.now.room (readers self.now.room)) spec.empty words.old) result words.new }
     {
         let fields = Groups::new(self.alloc);
         parts(
@@ -79,8 +79,8 @@ where
         words: &mut Cursor<'_>,
         spot: Spot,
     ) -> Result<TypeSub, ParseError>
-        requires { Nests self.now.budget (F.pre self.now.part) (F.post self.now.part) }
-        ensures { Reads see_type (spec.struct_type (self.now.budget - 1) (readers (self.now.budget - 1)) spot words.old) result words.new }
+        requires { Nests self.now.room (F.pre self.now.part) (F.post self.now.part) }
+        ensures { Reads see_type (spec.struct_type self.now.room (readers self.now.room) spot words.old) result words.new }
     {
         words.expect(TokenKind::LBrace)?;
         let Groups { items, depth } = match self.field_list(words) {
@@ -98,8 +98,8 @@ where
         words: &mut Cursor<'_>,
         elems: TypeSubs,
     ) -> Result<TypeSubs, ParseError>
-        requires { Nests self.now.budget (F.pre self.now.part) (F.post self.now.part) }
-        ensures { Reads see_types (spec.one_more (spec.an_element (self.now.budget - 1) (readers (self.now.budget - 1))) (see_types elems) words.old) result words.new }
+        requires { Nests self.now.room (F.pre self.now.part) (F.post self.now.part) }
+        ensures { Reads see_types (spec.one_more (spec.an_element self.now.room (readers self.now.room)) (see_types elems) words.old) result words.new }
     {
         let next = match self.an_element(words) {
             Ok(next) => next,
@@ -112,8 +112,8 @@ where
     }
 
     fn element_list(&self, words: &mut Cursor<'_>) -> Result<TypeSubs, ParseError>
-        requires { Nests self.now.budget (F.pre self.now.part) (F.post self.now.part) }
-        ensures { Reads see_types (reader.parts Semi RBrace spec.any_end (spec.one_more (spec.an_element (self.now.budget - 1) (readers (self.now.budget - 1)))) spec.empty words.old) result words.new }
+        requires { Nests self.now.room (F.pre self.now.part) (F.post self.now.part) }
+        ensures { Reads see_types (reader.parts Semi RBrace spec.any_end (spec.one_more (spec.an_element self.now.room (readers self.now.room))) spec.empty words.old) result words.new }
     {
         let elems = TypeSubs::new(self.alloc);
         parts(
@@ -131,8 +131,8 @@ where
         words: &mut Cursor<'_>,
         spot: Spot,
     ) -> Result<TypeSub, ParseError>
-        requires { Nests self.now.budget (F.pre self.now.part) (F.post self.now.part) }
-        ensures { Reads see_type (spec.interface_type (self.now.budget - 1) (readers (self.now.budget - 1)) spot words.old) result words.new }
+        requires { Nests self.now.room (F.pre self.now.part) (F.post self.now.part) }
+        ensures { Reads see_type (spec.interface_type self.now.room (readers self.now.room) spot words.old) result words.new }
     {
         words.expect(TokenKind::LBrace)?;
         let TypeSubs { items, depth } = match self.element_list(words) {

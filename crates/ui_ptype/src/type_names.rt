@@ -1,6 +1,6 @@
 //! Types' names and their arguments. Go specification, "Types".
 
-ghost use Rattle.std.specs.Prelude.{◌≡◌, ◌-◌, IfOk, suc};
+ghost use Rattle.std.specs.Prelude.{◌≡◌, IfOk, suc};
 ghost use Rattle.ui_grammar.specs.Fits.{name_depth as name_depth_of};
 ghost use Rattle.ui_ptype.specs.Parts.{type_in};
 ghost use Rattle.ui_ptype.specs.Seen.{see_type, see_types};
@@ -52,8 +52,8 @@ where
         lower: bool,
         all: TypeSubs,
     ) -> Result<TypeSubs, ParseError>
-        requires { Nests self.now.budget (F.pre self.now.part) (F.post self.now.part) }
-        ensures { Reads see_types (spec.one_more (type_in (self.now.budget - 1) (readers (self.now.budget - 1)) lower) (see_types all) words.old) result words.new }
+        requires { Nests self.now.room (F.pre self.now.part) (F.post self.now.part) }
+        ensures { Reads see_types (spec.one_more (type_in self.now.room (readers self.now.room) lower) (see_types all) words.old) result words.new }
     {
         let next = match self.type_in(words, lower) {
             Ok(next) => next,
@@ -72,8 +72,8 @@ where
         lower: bool,
         first: TypeSub,
     ) -> Result<TypeSubs, ParseError>
-        requires { Nests self.now.budget (F.pre self.now.part) (F.post self.now.part) }
-        ensures { Reads see_types (spec.more_args (type_in (self.now.budget - 1) (readers (self.now.budget - 1)) lower) (spec.only (see_type first).tree first.depth) words.old) result words.new }
+        requires { Nests self.now.room (F.pre self.now.part) (F.post self.now.part) }
+        ensures { Reads see_types (spec.more_args (type_in self.now.room (readers self.now.room) lower) (spec.only (see_type first).tree first.depth) words.old) result words.new }
     {
         let all = match TypeSubs::only(self.alloc, first) {
             Ok(all) => all,
@@ -95,8 +95,8 @@ where
         lower: bool,
         first: TypeSub,
     ) -> Result<TypeSubs, ParseError>
-        requires { Nests self.now.budget (F.pre self.now.part) (F.post self.now.part) }
-        ensures { Reads see_types (spec.args_behind (type_in (self.now.budget - 1) (readers (self.now.budget - 1)) lower) (spec.only (see_type first).tree first.depth) words.old) result words.new }
+        requires { Nests self.now.room (F.pre self.now.part) (F.post self.now.part) }
+        ensures { Reads see_types (spec.args_behind (type_in self.now.room (readers self.now.room) lower) (spec.only (see_type first).tree first.depth) words.old) result words.new }
     {
         let all = match TypeSubs::only(self.alloc, first) {
             Ok(all) => all,
@@ -111,21 +111,21 @@ where
         )
     }
 
-    // [ TArgs ], where there is room: the arguments have one level less.
+    // [ TArgs ], where the levels suffice: the arguments have one less.
     #[tactic(auto, unfolding(ui_parse::specs::Reader::take_by))]
     pub(crate) fn maybe_args(
         &self,
         words: &mut Cursor<'_>,
-        room: u32,
+        levels: u64,
         lower: bool,
         name: Placed,
         member: Option<Placed>,
     ) -> Result<TypeSub, ParseError>
-        requires { Nests self.now.budget (F.pre self.now.part) (F.post self.now.part) }
-        ensures { Reads see_type (spec.maybe_args room (type_in (self.now.budget - 1) (readers (self.now.budget - 1)) lower) name member words.old) result words.new }
+        requires { Nests self.now.room (F.pre self.now.part) (F.post self.now.part) }
+        ensures { Reads see_type (spec.maybe_args levels (type_in self.now.room (readers self.now.room) lower) name member words.old) result words.new }
     {
         let depth = name_depth(&member);
-        if depth < room && words.take(TokenKind::LBracket).is_some() {
+        if (depth as u64) < levels && words.take(TokenKind::LBracket).is_some() {
             let first = match self.type_in(words, lower) {
                 Ok(first) => first,
                 Err(fault) => return Err(fault),
@@ -152,11 +152,12 @@ where
         words: &mut Cursor<'_>,
         name: Placed,
     ) -> Result<TypeSub, ParseError>
-        requires { Nests self.now.budget (F.pre self.now.part) (F.post self.now.part) }
-        ensures { Reads see_type (spec.named_type (suc (self.now.budget - 1)) (spec.a_type (self.now.budget - 1) (readers (self.now.budget - 1))) name words.old) result words.new }
+        requires { Nests self.now.room (F.pre self.now.part) (F.post self.now.part) }
+        ensures { Reads see_type (spec.named_type (suc self.now.room) (spec.a_type self.now.room (readers self.now.room)) name words.old) result words.new }
     {
-        if self.budget < 2 {
-            return self.maybe_args(words, self.budget, false, name, None);
+        let levels = self.room as u64 + 1;
+        if self.room == 0 {
+            return self.maybe_args(words, levels, false, name, None);
         }
         match words.take(TokenKind::Period) {
             Some(_) => {
@@ -164,9 +165,9 @@ where
                     Ok(member) => member,
                     Err(fault) => return Err(fault),
                 };
-                self.maybe_args(words, self.budget, false, name, Some(member))
+                self.maybe_args(words, levels, false, name, Some(member))
             }
-            None => self.maybe_args(words, self.budget, false, name, None),
+            None => self.maybe_args(words, levels, false, name, None),
         }
     }
 }

@@ -1,6 +1,6 @@
 //! Types. Go specification, "Types".
 
-ghost use Rattle.std.specs.Prelude.{◌≡◌, ◌-◌, None};
+ghost use Rattle.std.specs.Prelude.{◌≡◌, None};
 ghost use Rattle.ui_parse.specs.Reader.{pure};
 ghost use Rattle.ui_ptype.specs.Parts.{type_in};
 ghost use Rattle.ui_ptype.specs.Seen.{see_type, see_maybe};
@@ -24,8 +24,8 @@ where
     F: Fn(Global, &mut Cursor<'_>, u32, Ask) -> Result<Got, ParseError>,
 {
     fn map_type(&self, words: &mut Cursor<'_>, spot: Spot) -> Result<TypeSub, ParseError>
-        requires { Nests self.now.budget (F.pre self.now.part) (F.post self.now.part) }
-        ensures { Reads see_type (spec.map_type (self.now.budget - 1) (readers (self.now.budget - 1)) spot words.old) result words.new }
+        requires { Nests self.now.room (F.pre self.now.part) (F.post self.now.part) }
+        ensures { Reads see_type (spec.map_type self.now.room (readers self.now.room) spot words.old) result words.new }
     {
         if let Err(fault) = words.expect(TokenKind::LBracket) {
             return Err(fault);
@@ -54,8 +54,8 @@ where
     }
 
     fn array_type(&self, words: &mut Cursor<'_>, spot: Spot) -> Result<TypeSub, ParseError>
-        requires { Nests self.now.budget (F.pre self.now.part) (F.post self.now.part) }
-        ensures { Reads see_type (spec.array_type (self.now.budget - 1) (readers (self.now.budget - 1)) spot words.old) result words.new }
+        requires { Nests self.now.room (F.pre self.now.part) (F.post self.now.part) }
+        ensures { Reads see_type (spec.array_type self.now.room (readers self.now.room) spot words.old) result words.new }
     {
         let len = match self.level_at(words, Site::Plain, 1) {
             Ok(len) => len,
@@ -86,8 +86,8 @@ where
         lower: bool,
         spot: Spot,
     ) -> Result<TypeSub, ParseError>
-        requires { Nests self.now.budget (F.pre self.now.part) (F.post self.now.part) }
-        ensures { Reads see_type (spec.counted_type (self.now.budget - 1) (readers (self.now.budget - 1)) (type_in (self.now.budget - 1) (readers (self.now.budget - 1)) lower) spot words.old) result words.new }
+        requires { Nests self.now.room (F.pre self.now.part) (F.post self.now.part) }
+        ensures { Reads see_type (spec.counted_type self.now.room (readers self.now.room) (type_in self.now.room (readers self.now.room) lower) spot words.old) result words.new }
     {
         if let Err(fault) = words.expect(TokenKind::RBracket) {
             return Err(fault);
@@ -111,15 +111,15 @@ where
         site: TypeSite,
         spot: Spot,
     ) -> Result<TypeSub, ParseError>
-        requires { Nests self.now.budget (F.pre self.now.part) (F.post self.now.part) }
-        ensures { Reads see_type (spec.counted_or_array (self.now.budget - 1) (readers (self.now.budget - 1)) site spot words.old) result words.new }
+        requires { Nests self.now.room (F.pre self.now.part) (F.post self.now.part) }
+        ensures { Reads see_type (spec.counted_or_array self.now.room (readers self.now.room) site spot words.old) result words.new }
     {
         let lower = match site {
             TypeSite::Plain | TypeSite::Element => return self.array_type(words, spot),
             TypeSite::Operand => false,
             TypeSite::Argument => true,
         };
-        if (!lower || self.budget >= 3) && words.take(TokenKind::Ellipsis).is_some() {
+        if (!lower || self.room >= 2) && words.take(TokenKind::Ellipsis).is_some() {
             return self.counted_type(words, lower, spot);
         }
         self.array_type(words, spot)
@@ -133,8 +133,8 @@ where
         site: TypeSite,
         spot: Spot,
     ) -> Result<TypeSub, ParseError>
-        requires { Nests self.now.budget (F.pre self.now.part) (F.post self.now.part) }
-        ensures { Reads see_type (spec.bracket_type (self.now.budget - 1) (readers (self.now.budget - 1)) site spot words.old) result words.new }
+        requires { Nests self.now.room (F.pre self.now.part) (F.post self.now.part) }
+        ensures { Reads see_type (spec.bracket_type self.now.room (readers self.now.room) site spot words.old) result words.new }
     {
         if words.take(TokenKind::RBracket).is_none() {
             return self.counted_or_array(words, site, spot);
@@ -156,10 +156,10 @@ where
         words: &mut Cursor<'_>,
         site: TypeSite,
     ) -> Result<Option<TypeSub>, ParseError>
-        requires { Nests self.now.budget (F.pre self.now.part) (F.post self.now.part) }
-        ensures { Reads see_maybe (spec.deep_type (self.now.budget - 1) (readers (self.now.budget - 1)) site (pure None) words.old) result words.new }
+        requires { Nests self.now.room (F.pre self.now.part) (F.post self.now.part) }
+        ensures { Reads see_maybe (spec.deep_type self.now.room (readers self.now.room) site (pure None) words.old) result words.new }
     {
-        if self.budget < 2 {
+        if self.room == 0 {
             return Ok(None);
         }
         if let Some(spot) = words.take(TokenKind::LBracket) {
@@ -184,8 +184,8 @@ where
         words: &mut Cursor<'_>,
         site: TypeSite,
     ) -> Result<Option<TypeSub>, ParseError>
-        requires { Nests self.now.budget (F.pre self.now.part) (F.post self.now.part) }
-        ensures { Reads see_maybe (spec.operand_type (self.now.budget - 1) (readers (self.now.budget - 1)) site (pure None) words.old) result words.new }
+        requires { Nests self.now.room (F.pre self.now.part) (F.post self.now.part) }
+        ensures { Reads see_maybe (spec.operand_type self.now.room (readers self.now.room) site (pure None) words.old) result words.new }
     {
         if let Some(spot) = words.take(TokenKind::Func) {
             return match self.func_type(words, spot) {
@@ -209,8 +209,8 @@ where
     }
 
     fn pointer_type(&self, words: &mut Cursor<'_>, spot: Spot) -> Result<TypeSub, ParseError>
-        requires { Nests self.now.budget (F.pre self.now.part) (F.post self.now.part) }
-        ensures { Reads see_type (spec.pointer_type (self.now.budget - 1) (readers (self.now.budget - 1)) spot words.old) result words.new }
+        requires { Nests self.now.room (F.pre self.now.part) (F.post self.now.part) }
+        ensures { Reads see_type (spec.pointer_type self.now.room (readers self.now.room) spot words.old) result words.new }
     {
         let of = match self.a_type(words) {
             Ok(of) => of,
@@ -224,8 +224,8 @@ where
     }
 
     fn parenthesized_type(&self, words: &mut Cursor<'_>, spot: Spot) -> Result<TypeSub, ParseError>
-        requires { Nests self.now.budget (F.pre self.now.part) (F.post self.now.part) }
-        ensures { Reads see_type (spec.parenthesized_type (self.now.budget - 1) (readers (self.now.budget - 1)) spot words.old) result words.new }
+        requires { Nests self.now.room (F.pre self.now.part) (F.post self.now.part) }
+        ensures { Reads see_type (spec.parenthesized_type self.now.room (readers self.now.room) spot words.old) result words.new }
     {
         let of = match self.a_type(words) {
             Ok(of) => of,
@@ -248,10 +248,10 @@ where
 
     #[tactic(auto, unfolding(ui_parse::specs::Reader::take_by))]
     fn marked_type(&self, words: &mut Cursor<'_>) -> Result<Option<TypeSub>, ParseError>
-        requires { Nests self.now.budget (F.pre self.now.part) (F.post self.now.part) }
-        ensures { Reads see_maybe (spec.marked_type (self.now.budget - 1) (readers (self.now.budget - 1)) words.old) result words.new }
+        requires { Nests self.now.room (F.pre self.now.part) (F.post self.now.part) }
+        ensures { Reads see_maybe (spec.marked_type self.now.room (readers self.now.room) words.old) result words.new }
     {
-        if self.budget < 2 {
+        if self.room == 0 {
             return Ok(None);
         }
         if let Some(spot) = words.take(TokenKind::Mul) {
@@ -272,8 +272,8 @@ where
     // A type without a name.
     #[tactic(auto, using(crate::proofs::CodeReaders::reads_other))]
     pub(crate) fn other_type(&self, words: &mut Cursor<'_>) -> Result<Option<TypeSub>, ParseError>
-        requires { Nests self.now.budget (F.pre self.now.part) (F.post self.now.part) }
-        ensures { Reads see_maybe (spec.other_type (self.now.budget - 1) (readers (self.now.budget - 1)) words.old) result words.new }
+        requires { Nests self.now.room (F.pre self.now.part) (F.post self.now.part) }
+        ensures { Reads see_maybe (spec.other_type self.now.room (readers self.now.room) words.old) result words.new }
     {
         match self.operand_type(words, TypeSite::Plain) {
             Ok(Some(of)) => Ok(Some(of)),
@@ -282,11 +282,11 @@ where
         }
     }
 
-    /// A type within the budget, where one begins.
+    /// A type, where one begins.
     #[tactic(auto, unfolding(ui_syntax::specs::Types::plain_type, ui_parse::specs::Reader::take_by))]
     pub fn plain_type(&self, words: &mut Cursor<'_>) -> Result<Option<TypeSub>, ParseError>
-        requires { Nests self.now.budget (F.pre self.now.part) (F.post self.now.part) }
-        ensures { Reads see_maybe (spec.plain_type (self.now.budget - 1) (readers (self.now.budget - 1)) words.old) result words.new }
+        requires { Nests self.now.room (F.pre self.now.part) (F.post self.now.part) }
+        ensures { Reads see_maybe (spec.plain_type self.now.room (readers self.now.room) words.old) result words.new }
     {
         match words.take_name(self.alloc) {
             Ok(Some(name)) => match self.named_type(words, name) {
@@ -298,15 +298,15 @@ where
         }
     }
 
-    /// A type within the budget as its site takes one, where one begins.
+    /// A type as its site takes one, where one begins.
     #[tactic(auto, unfolding(ui_syntax::specs::Types::maybe_type))]
     pub fn own_type(
         &self,
         words: &mut Cursor<'_>,
         site: TypeSite,
     ) -> Result<Option<TypeSub>, ParseError>
-        requires { Nests self.now.budget (F.pre self.now.part) (F.post self.now.part) }
-        ensures { Reads see_maybe (spec.maybe_type (self.now.budget - 1) (readers (self.now.budget - 1)) site words.old) result words.new }
+        requires { Nests self.now.room (F.pre self.now.part) (F.post self.now.part) }
+        ensures { Reads see_maybe (spec.maybe_type self.now.room (readers self.now.room) site words.old) result words.new }
     {
         match site {
             TypeSite::Plain => self.plain_type(words),

@@ -1,6 +1,6 @@
 //! Terms, unions and elements of interfaces. Go specification, "Interface types".
 
-ghost use Rattle.std.specs.Prelude.{◌≡◌, ◌-◌};
+ghost use Rattle.std.specs.Prelude.{◌≡◌};
 ghost use Rattle.ui_parse.specs.Reader as reader;
 ghost use Rattle.ui_scan.specs.declared.kind.TokenKind.TheVariants.{Or};
 ghost use Rattle.ui_ptype.specs.Parts.{own_plain, tilde_type, named_element};
@@ -24,8 +24,8 @@ where
     F: Fn(Global, &mut Cursor<'_>, u32, Ask) -> Result<Got, ParseError>,
 {
     fn own_plain(&self, words: &mut Cursor<'_>) -> Result<TypeSub, ParseError>
-        requires { Nests self.now.budget (F.pre self.now.part) (F.post self.now.part) }
-        ensures { Reads see_type (own_plain (self.now.budget - 1) (readers (self.now.budget - 1)) words.old) result words.new }
+        requires { Nests self.now.room (F.pre self.now.part) (F.post self.now.part) }
+        ensures { Reads see_type (own_plain self.now.room (readers self.now.room) words.old) result words.new }
     {
         match self.plain_type(words) {
             Ok(Some(of)) => Ok(of),
@@ -36,8 +36,8 @@ where
 
     /// A term's type, behind "~".
     pub fn tilde(&self, words: &mut Cursor<'_>, spot: Spot) -> Result<TypeSub, ParseError>
-        requires { Nests self.now.budget (F.pre self.now.part) (F.post self.now.part) }
-        ensures { Reads see_type (tilde_type (self.now.budget - 1) (readers (self.now.budget - 1)) spot words.old) result words.new }
+        requires { Nests self.now.room (F.pre self.now.part) (F.post self.now.part) }
+        ensures { Reads see_type (tilde_type self.now.room (readers self.now.room) spot words.old) result words.new }
     {
         let of = match self.own_plain(words) {
             Ok(of) => of,
@@ -53,8 +53,8 @@ where
     // [ "~" ] Type
     #[tactic(auto, unfolding(ui_syntax::specs::Types::term, ui_parse::specs::Reader::take_by))]
     fn term(&self, words: &mut Cursor<'_>) -> Result<TypeSub, ParseError>
-        requires { Nests self.now.budget (F.pre self.now.part) (F.post self.now.part) }
-        ensures { Reads see_type (spec.term (self.now.budget - 1) (readers (self.now.budget - 1)) words.old) result words.new }
+        requires { Nests self.now.room (F.pre self.now.part) (F.post self.now.part) }
+        ensures { Reads see_type (spec.term self.now.room (readers self.now.room) words.old) result words.new }
     {
         match words.take(TokenKind::Tilde) {
             Some(spot) => self.tilde(words, spot),
@@ -63,8 +63,8 @@ where
     }
 
     fn one_more_term(&self, words: &mut Cursor<'_>, terms: TypeSubs) -> Result<TypeSubs, ParseError>
-        requires { Nests self.now.budget (F.pre self.now.part) (F.post self.now.part) }
-        ensures { Reads see_types (spec.one_more (spec.term (self.now.budget - 1) (readers (self.now.budget - 1))) (see_types terms) words.old) result words.new }
+        requires { Nests self.now.room (F.pre self.now.part) (F.post self.now.part) }
+        ensures { Reads see_types (spec.one_more (spec.term self.now.room (readers self.now.room)) (see_types terms) words.old) result words.new }
     {
         let next = match self.term(words) {
             Ok(next) => next,
@@ -77,8 +77,8 @@ where
     }
 
     fn more_terms(&self, words: &mut Cursor<'_>, first: TypeSub) -> Result<TypeSubs, ParseError>
-        requires { Nests self.now.budget (F.pre self.now.part) (F.post self.now.part) }
-        ensures { Reads see_types (reader.chain Or (spec.one_more (spec.term (self.now.budget - 1) (readers (self.now.budget - 1)))) (spec.only (see_type first).tree first.depth) words.old) result words.new }
+        requires { Nests self.now.room (F.pre self.now.part) (F.post self.now.part) }
+        ensures { Reads see_types (reader.chain Or (spec.one_more (spec.term self.now.room (readers self.now.room))) (spec.only (see_type first).tree first.depth) words.old) result words.new }
     {
         let terms = match TypeSubs::only(self.alloc, first) {
             Ok(terms) => terms,
@@ -99,8 +99,8 @@ where
         words: &mut Cursor<'_>,
         first: TypeSub,
     ) -> Result<Option<TypeSub>, ParseError>
-        requires { Nests self.now.budget (F.pre self.now.part) (F.post self.now.part) }
-        ensures { Reads see_maybe (spec.union_from (self.now.budget - 1) (readers (self.now.budget - 1)) (see_type first) words.old) result words.new }
+        requires { Nests self.now.room (F.pre self.now.part) (F.post self.now.part) }
+        ensures { Reads see_maybe (spec.union_from self.now.room (readers self.now.room) (see_type first) words.old) result words.new }
     {
         let spot = first.spot;
         let TypeSubs { items, depth } = match self.more_terms(words, first) {
@@ -120,8 +120,8 @@ where
         words: &mut Cursor<'_>,
         name: Placed,
     ) -> Result<Option<TypeSub>, ParseError>
-        requires { Nests self.now.budget (F.pre self.now.part) (F.post self.now.part) }
-        ensures { Reads see_maybe (named_element (self.now.budget - 1) (readers (self.now.budget - 1)) name words.old) result words.new }
+        requires { Nests self.now.room (F.pre self.now.part) (F.post self.now.part) }
+        ensures { Reads see_maybe (named_element self.now.room (readers self.now.room) name words.old) result words.new }
     {
         if words.take(TokenKind::LParen).is_some() {
             return match self.method(words, name) {
@@ -139,8 +139,8 @@ where
     // name Sig | Term { "|" Term }
     #[tactic(auto, unfolding(ui_syntax::specs::Types::element, ui_parse::specs::Reader::take_by))]
     pub(crate) fn element(&self, words: &mut Cursor<'_>) -> Result<Option<TypeSub>, ParseError>
-        requires { Nests self.now.budget (F.pre self.now.part) (F.post self.now.part) }
-        ensures { Reads see_maybe (spec.element (self.now.budget - 1) (readers (self.now.budget - 1)) words.old) result words.new }
+        requires { Nests self.now.room (F.pre self.now.part) (F.post self.now.part) }
+        ensures { Reads see_maybe (spec.element self.now.room (readers self.now.room) words.old) result words.new }
     {
         match words.take_name(self.alloc) {
             Ok(Some(name)) => return self.named_element(words, name),

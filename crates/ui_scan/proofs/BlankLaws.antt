@@ -9,7 +9,7 @@ use Rattle.ui_scan.specs.Number.{number, radix, number_end, whole_number, within
 use Rattle.ui_scan.specs.Digits.{whole}
 use Rattle.ui_scan.specs.Letters.{begins_name}
 use Rattle.ui_scan.specs.Piece.{piece, lexeme, line_comment, general_comment, comment_len, comment_piece, word, is_line_end, is_blank, is_decimal}
-use Rattle.ui_scan.specs.Table.{Entry, operator, operators, first_operator}
+use Rattle.ui_scan.specs.Table.{Row, operator, operators, first_operator}
 use Rattle.ui_scan.specs.Tokens.{IsWhite, at_line_end, IsLineComment, IsGeneralComment, IsBlank, begins_blank}
 use Rattle.ui_scan.specs.declared.literal.Body.{Body}
 use Rattle.ui_scan.specs.declared.literal.Body.TheVariants as body
@@ -156,7 +156,7 @@ NotBlank (Token kind len) = Unit {0}
 NotBlank (Fault kind at) = Unit {0}
 NotBlank (Open kind) = Unit {0}
 
-operator_not_blank : (table : List Entry) (bytes : List ℕ) → NotBlank (first_operator table bytes)
+operator_not_blank : (table : List Row) (bytes : List ℕ) → NotBlank (first_operator table bytes)
 operator_not_blank [] bytes = tt
 operator_not_blank (entry ∷ table) bytes =
     tested NotBlank (starts_with nat_eq bytes entry.0) _ _ (λ _. tt) (λ _. operator_not_blank table bytes)

@@ -12,7 +12,7 @@ use Rattle.ui_scan.specs.Literal.{string, rune, raw_string, string_piece, rune_p
 use Rattle.ui_scan.specs.Number.{radix, number_end, number, whole_number, within, is_numeral, digits_in, begins_fraction}
 use Rattle.ui_scan.specs.Piece.{lexeme, word, word_or_operator, is_decimal}
 use Rattle.ui_scan.specs.Scan.{token_between, due_after}
-use Rattle.ui_scan.specs.Table.{Entry, keywords, spelled, word_kind, operators, operator, first_operator}
+use Rattle.ui_scan.specs.Table.{Row, keywords, spelled, word_kind, operators, operator, first_operator}
 use Rattle.ui_scan.specs.Tokens.{place_at, IsLexeme, AreWords, ends_line, semicolon_before, with_semicolons, Tokens}
 use Rattle.ui_scan.specs.Value.{int_value, inside, IsLiteral, is_literal, IsIfLiteral}
 use Rattle.ui_scan.specs.declared.number.Radix.{Radix}
@@ -69,10 +69,10 @@ rune_is (c ∷ bytes) (body.BadEscape at) p le = tt
 rune_is (c ∷ bytes) body.Open p le = tt
 
 -- keywords, identifiers and operators are no literals
-abbrev is_other : Entry → Bool
+abbrev is_other : Row → Bool
 is_other entry = not (is_literal entry.1)
 
-spelled_other : (table : List Entry) (text : List ℕ) → list_all is_other table ≡ true → is_literal (unwrap_or (spelled table text) kind.Ident) ≡ false
+spelled_other : (table : List Row) (text : List ℕ) → list_all is_other table ≡ true → is_literal (unwrap_or (spelled table text) kind.Ident) ≡ false
 spelled_other [] text each = refl
 spelled_other (entry ∷ table) text each =
     let parts = and_parts (is_other entry) (list_all is_other table) each in
@@ -83,7 +83,7 @@ word_other : (text : List ℕ) → is_literal (word_kind text) ≡ false
 unfolding word_kind keywords
 word_other text = spelled_other keywords text refl
 
-operator_is : (table : List Entry) (bytes : List ℕ) → list_all is_other table ≡ true → LiteralIs bytes (first_operator table bytes)
+operator_is : (table : List Row) (bytes : List ℕ) → list_all is_other table ≡ true → LiteralIs bytes (first_operator table bytes)
 operator_is [] bytes each = tt
 operator_is (entry ∷ table) bytes each =
     let parts = and_parts (is_other entry) (list_all is_other table) each in

@@ -14,7 +14,7 @@ use Rattle.ui_base.specs.Chars.{is_letter}
 use Rattle.ui_scan.specs.Language.IsFaulty.{point}
 use Rattle.ui_scan.specs.Letters.{front_char, passes, begins_name}
 use Rattle.ui_scan.specs.Piece.{lexeme, is_decimal}
-use Rattle.ui_scan.specs.Table.{Entry, spelled, operators, operator, first_operator}
+use Rattle.ui_scan.specs.Table.{Row, spelled, operators, operator, first_operator}
 use Rattle.ui_scan.specs.declared.kind.TokenKind.{TokenKind}
 use Rattle.ui_scan.specs.declared.piece.Piece.{Piece}
 use Rattle.ui_scan.specs.declared.piece.Piece.TheVariants as a
@@ -24,12 +24,12 @@ use Rattle.ui_scan.proofs.Readings.{Outdone, Reads}
 use Rattle.ui_scan.proofs.WordLanguage.{is_word_byte, lexeme_word, spelled_passes, low_scalar}
 
 -- a text that begins by an entry, behind which it stands, is no longer
-abbrev no_longer : Entry → List ℕ → Bool
+abbrev no_longer : Row → List ℕ → Bool
 no_longer entry text = not (starts_with nat_eq text entry.0) || nat_le (length text) (length entry.0)
 
-abbrev is_ordered : List Entry → Bool
+abbrev is_ordered : List Row → Bool
 is_ordered [] = true
-is_ordered (entry ∷ table) = list_all (λ (later : Entry). no_longer entry later.0) table && is_ordered table
+is_ordered (entry ∷ table) = list_all (λ (later : Row). no_longer entry later.0) table && is_ordered table
 
 -- of two texts that begin the same bytes the shorter begins the longer
 begins_both : (bytes a b : List ℕ) → starts_with nat_eq bytes a ≡ true → starts_with nat_eq bytes b ≡ true → length a ≤ length b → starts_with nat_eq b a ≡ true
@@ -43,7 +43,7 @@ begins_itself : (text rest : List ℕ) → starts_with nat_eq (text ++ rest) tex
 begins_itself text rest = (bytes_eq-Decides text (take (length text) (text ++ rest))).1 (sym (take_at text rest (length text) refl))
 
 -- an entry that begins the bytes, before the one that spells the text
-earlier : (entry : Entry) (text rest : List ℕ) → starts_with nat_eq (text ++ rest) entry.0 ≡ true → bytes_eq entry.0 text ≡ false → no_longer entry text ≡ true → length text < length entry.0
+earlier : (entry : Row) (text rest : List ℕ) → starts_with nat_eq (text ++ rest) entry.0 ≡ true → bytes_eq entry.0 text ≡ false → no_longer entry text ≡ true → length text < length entry.0
 earlier entry text rest found other well = ⊎_elim
     (λ longer. longer)
     (λ (le : length entry.0 ≤ length text).
@@ -58,12 +58,12 @@ earlier entry text rest found other well = ⊎_elim
     (cases_lt (length text) (length entry.0))
 
 -- the operator at the front
-table_reads : (table : List Entry) (text rest : List ℕ) (kind : TokenKind) → is_ordered table ≡ true → spelled table text ≡ Some kind
+table_reads : (table : List Row) (text rest : List ℕ) (kind : TokenKind) → is_ordered table ≡ true → spelled table text ≡ Some kind
     → Reads (text ++ rest) kind (length text) (first_operator table (text ++ rest))
 table_reads [] text rest kind ordered is = absurd (cc)
 table_reads (entry ∷ table) text rest kind ordered is =
     let bytes = text ++ rest in
-    let parts = and_parts (list_all (λ (later : Entry). no_longer entry later.0) table) (is_ordered table) ordered in
+    let parts = and_parts (list_all (λ (later : Row). no_longer entry later.0) table) (is_ordered table) ordered in
     ⊎_elim
     (λ same.
     let spells : entry.0 ≡ text = (bytes_eq-Decides entry.0 text).0 same in
@@ -117,13 +117,13 @@ operator_reads kind (b ∷ text) rest is =
     (λ _. subst (Reads bytes kind (length (b ∷ text))) (sym (cond-false _ _ _ no_name)) (table_reads operators (b ∷ text) rest kind refl is)))
 
 -- an operator that is read is one of the table
-abbrev pub Spells : List Entry → List ℕ → Piece → Type 0
+abbrev pub Spells : List Row → List ℕ → Piece → Type 0
 Spells table bytes (a.Blank len ends_line) = Unit {0}
 Spells table bytes (a.Token kind len) = spelled table (take len bytes) ≡ Some kind
 Spells table bytes (a.Fault kind at) = Unit {0}
 Spells table bytes (a.Open kind) = Unit {0}
 
-spells_later : (entry : Entry) (table : List Entry) (bytes : List ℕ) (p : Piece) → starts_with nat_eq bytes entry.0 ≡ false → Spells table bytes p → Spells (entry ∷ table) bytes p
+spells_later : (entry : Row) (table : List Row) (bytes : List ℕ) (p : Piece) → starts_with nat_eq bytes entry.0 ≡ false → Spells table bytes p → Spells (entry ∷ table) bytes p
 spells_later entry table bytes (a.Blank len ends_line) other spells = tt
 spells_later entry table bytes (a.Token kind len) other spells =
     cond-false _ _ _ (false_from_ne_true (bytes_eq entry.0 (take len bytes)) (λ same.
@@ -134,7 +134,7 @@ spells_later entry table bytes (a.Token kind len) other spells =
 spells_later entry table bytes (a.Fault kind at) other spells = tt
 spells_later entry table bytes (a.Open kind) other spells = tt
 
-table_sound : (table : List Entry) (bytes : List ℕ) → Spells table bytes (first_operator table bytes)
+table_sound : (table : List Row) (bytes : List ℕ) → Spells table bytes (first_operator table bytes)
 table_sound [] bytes = tt
 table_sound (entry ∷ table) bytes =
     tested (Spells (entry ∷ table) bytes) (starts_with nat_eq bytes entry.0) _ _

@@ -16,7 +16,7 @@ use Rattle.ui_scan.specs.Letters.{front_char, passes, begins_name, name_len, nam
 use Rattle.ui_scan.specs.Literal.{string, rune, raw_string, string_piece, rune_piece, raw_end, body, IsBodyIn, rune_code}
 use Rattle.ui_scan.specs.Number.{radix, is_counted, counted_len, number_end, number, whole_number, within, is_numeral, digits_in, begins_fraction}
 use Rattle.ui_scan.specs.Piece.{line_comment, comment_len, comment_piece, general_comment, word, word_or_operator, lexeme, piece, is_line_end, is_blank, is_decimal, is_end, IsPieceIn}
-use Rattle.ui_scan.specs.Table.{Entry, keywords, spelled, word_kind, operators, operator, first_operator}
+use Rattle.ui_scan.specs.Table.{Row, keywords, spelled, word_kind, operators, operator, first_operator}
 use Rattle.ui_scan.specs.declared.number.Radix.{Radix}
 use Rattle.ui_scan.specs.declared.literal.Body.{Body}
 use Rattle.ui_scan.specs.declared.literal.Body.TheVariants as body
@@ -65,14 +65,14 @@ pub starts_with_is : (bytes needle : List ℕ) → starts_with nat_eq bytes need
 starts_with_is bytes needle found = (bytes_eq-Decides needle (take (length needle) bytes)).0 found
 
 -- each entry of a table spells something
-abbrev pub is_spelled : Entry → Bool
+abbrev pub is_spelled : Row → Bool
 is_spelled entry = not (length entry.0 == 0) && not (is_end entry.1)
 
 not_zero : (n : ℕ) → not (n == 0) ≡ true → 1 ≤ n
 not_zero zero e = absurd (true≢false (sym e))
 not_zero (suc n) e = omega arith
 
-first_operator_in : (table : List Entry) (bytes : List ℕ) → list_all is_spelled table ≡ true → IsPieceIn (length bytes) (first_operator table bytes)
+first_operator_in : (table : List Row) (bytes : List ℕ) → list_all is_spelled table ≡ true → IsPieceIn (length bytes) (first_operator table bytes)
 first_operator_in [] bytes spelled = omega arith
 first_operator_in (entry ∷ table) bytes spelled =
     let parts = and_parts (is_spelled entry) (list_all is_spelled table) spelled in
@@ -86,7 +86,7 @@ unfolding operator operators
 operator_in bytes = first_operator_in operators bytes refl
 
 -- keywords and identifiers
-spelled_in : (table : List Entry) (text : List ℕ) → list_all is_spelled table ≡ true → is_end (unwrap_or (spelled table text) kind.Ident) ≡ false
+spelled_in : (table : List Row) (text : List ℕ) → list_all is_spelled table ≡ true → is_end (unwrap_or (spelled table text) kind.Ident) ≡ false
 spelled_in [] text each = refl
 spelled_in (entry ∷ table) text each =
     let parts = and_parts (is_spelled entry) (list_all is_spelled table) each in

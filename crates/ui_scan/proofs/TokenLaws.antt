@@ -278,8 +278,8 @@ sound_from (suc n) bytes due at le fuel =
 abbrev pub all_of : Outcome → Result (List Token) ScanFault
 all_of o = all_with o.front o.ends
 
-abbrev pub Gives : List ℕ → Option Place → ℕ → List Token → Type 0
-Gives bytes due at ts = all_of (outcome bytes None due (place_at bytes at)) ≡ Ok ts
+abbrev pub Yields : List ℕ → Option Place → ℕ → List Token → Type 0
+Yields bytes due at ts = all_of (outcome bytes None due (place_at bytes at)) ≡ Ok ts
 
 all_then : (ts : List Token) (o : Outcome) (us : List Token) → all_of o ≡ Ok us → all_of (then_outcome ts o) ≡ Ok (ts ++ us)
 all_then ts o us is = by_ends o.front o.ends is
@@ -301,7 +301,7 @@ blank_long text after blank =
 -- the tokens behind each piece
 abbrev NextGives : List ℕ → ℕ → Type 0
 NextGives bytes at = (due : Option Place) (len : ℕ) (ws : List Token) → 1 ≤ len → at + len ≤ length bytes → AreWords bytes (at + len) ws
-    → Gives bytes due (at + len) (with_semicolons bytes due (at + len) ws)
+    → Yields bytes due (at + len) (with_semicolons bytes due (at + len) ws)
 
 -- a token that stands behind white space or a comment stands behind its rest
 words_ahead : (bytes : List ℕ) (at mid : ℕ) (t : Token) (ts : List Token) → Stands bytes mid t → AreWords bytes at (t ∷ ts) → AreWords bytes mid (t ∷ ts)
@@ -310,7 +310,7 @@ words_ahead bytes at mid t (u ∷ us) s w = (s, w.1, w.2)
 
 by_line_end : (bytes : List ℕ) (due : Option Place) (at : ℕ) (t : Token) (ts : List Token) (len : ℕ) (ends : Bool) (le : at ≤ length bytes) → NextGives bytes at
     → 1 ≤ len → len ≤ length (drop at bytes) → at + len ≤ length bytes → at + len ≤ t.start → t.start ≤ length bytes → AreWords bytes (at + len) (t ∷ ts)
-    → piece (drop at bytes) ≡ a.Blank len ends → list_any is_line_end (take len (drop at bytes)) ≡ ends → Gives bytes due at (with_semicolons bytes due at (t ∷ ts))
+    → piece (drop at bytes) ≡ a.Blank len ends → list_any is_line_end (take len (drop at bytes)) ≡ ends → Yields bytes due at (with_semicolons bytes due at (t ∷ ts))
 by_line_end bytes due at t ts len false le next long high room far within ahead is line =
     ap all_of (at_blank bytes at le due len long high is) ∙ next due len (t ∷ ts) long room ahead ∙ ap Ok (ahead_same bytes due at len t ts far within line)
 by_line_end bytes due at t ts len true le next long high room far within ahead is line =
@@ -320,7 +320,7 @@ by_line_end bytes due at t ts len true le next long high room far within ahead i
 
 complete_blank : (bytes : List ℕ) (due : Option Place) (at : ℕ) (t : Token) (ts : List Token) (text : List ℕ) (texts : List (List ℕ)) → at ≤ length bytes
     → NextGives bytes at → AreWords bytes at (t ∷ ts) → at ≤ t.start → t.start ≤ length bytes → drop at bytes ≡ (text ++ concat texts) ++ drop t.start bytes
-    → IsBlank text (concat texts ++ drop t.start bytes) → AreBlanks texts (drop t.start bytes) → Gives bytes due at (with_semicolons bytes due at (t ∷ ts))
+    → IsBlank text (concat texts ++ drop t.start bytes) → AreBlanks texts (drop t.start bytes) → Yields bytes due at (with_semicolons bytes due at (t ∷ ts))
 complete_blank bytes due at t ts text texts le next words ascends within spelling blank each =
     let len = length text in
     let after = concat texts ++ drop t.start bytes in
@@ -339,7 +339,7 @@ complete_blank bytes due at t ts text texts le next words ascends within spellin
 
 -- a token that stands at once
 complete_end : (bytes : List ℕ) (due : Option Place) (at : ℕ) (t : Token) → at ≤ length bytes → t.start ≡ at → Stands bytes at t → IsLast bytes t
-    → Gives bytes due at (with_semicolons bytes due at (t ∷ []))
+    → Yields bytes due at (with_semicolons bytes due at (t ∷ []))
 complete_end bytes due at t le start s last =
     let p = place_at bytes at in
     let done : length bytes ≤ at = omega (arith, last.start, start) in
@@ -352,7 +352,7 @@ complete_end bytes due at t le start s last =
     ∙ ap (λ b. Ok (semicolon_before b due ++ (t ∷ []))) (sym (ap (λ k. is_end k || list_any is_line_end (take (t.start - at) (drop at bytes))) last.kind))
 
 complete_token : (bytes : List ℕ) (due : Option Place) (at : ℕ) (t u : Token) (ts : List Token) → at ≤ length bytes → at < length bytes → NextGives bytes at → t.start ≡ at
-    → Stands bytes at t → IsLexeme bytes t → AreWords bytes t.end (u ∷ ts) → Gives bytes due at (with_semicolons bytes due at (t ∷ u ∷ ts))
+    → Stands bytes at t → IsLexeme bytes t → AreWords bytes t.end (u ∷ ts) → Yields bytes due at (with_semicolons bytes due at (t ∷ u ∷ ts))
 complete_token bytes due at t u ts le lt next start s token words =
     let len = t.end - t.start in
     let end : t.end ≡ at + len = omega (arith, token.some_bytes, start) in
@@ -374,7 +374,7 @@ complete_token bytes due at t u ts le lt next start s token words =
     ∙ ap (λ b. Ok (semicolon_before b due ++ (t ∷ with_semicolons bytes (due_after t.kind (place_at bytes t.end)) t.end (u ∷ ts)))) (sym (no_line_before bytes at t start within.2))
 
 complete_here : (bytes : List ℕ) (due : Option Place) (at : ℕ) (t : Token) (ts : List Token) → at ≤ length bytes → NextGives bytes at → t.start ≡ at
-    → AreWords bytes at (t ∷ ts) → Gives bytes due at (with_semicolons bytes due at (t ∷ ts))
+    → AreWords bytes at (t ∷ ts) → Yields bytes due at (with_semicolons bytes due at (t ∷ ts))
 complete_here bytes due at t [] le next start words = complete_end bytes due at t le start words.0 words.1
 complete_here bytes due at t (u ∷ ts) le next start words =
     ⊎_elim
@@ -386,12 +386,12 @@ complete_here bytes due at t (u ∷ ts) le next start words =
     nothing_left ge = omega (arith, start, words.1.some_bytes, words.1.in_bytes)
 
 complete_step : (bytes : List ℕ) (due : Option Place) (at : ℕ) (t : Token) (ts : List Token) → at ≤ length bytes → NextGives bytes at → AreWords bytes at (t ∷ ts)
-    → Gives bytes due at (with_semicolons bytes due at (t ∷ ts))
+    → Yields bytes due at (with_semicolons bytes due at (t ∷ ts))
 complete_step bytes due at t ts le next words = by_blanks (words_stand bytes at t ts words) (words_stand bytes at t ts words).gap.blanks
     (words_stand bytes at t ts words).gap.spelling (words_stand bytes at t ts words).gap.each
   where
     by_blanks : Stands bytes at t → (blanks : List (List ℕ)) → drop at bytes ≡ concat blanks ++ drop t.start bytes → AreBlanks blanks (drop t.start bytes)
-        → Gives bytes due at (with_semicolons bytes due at (t ∷ ts))
+        → Yields bytes due at (with_semicolons bytes due at (t ∷ ts))
     by_blanks s [] spelling each =
         complete_here bytes due at t ts le next
         (let low = s.ascends in let high = s.within in omega (arith, ap length spelling, length-drop at bytes, length-drop t.start bytes)) words
@@ -399,7 +399,7 @@ complete_step bytes due at t ts le next words = by_blanks (words_stand bytes at 
         complete_blank bytes due at t ts text texts le next words s.ascends s.within spelling each.0 each.1
 
 complete_from : (n : ℕ) (bytes : List ℕ) (due : Option Place) (at : ℕ) (ws : List Token) → at ≤ length bytes → length bytes ≤ at + n → AreWords bytes at ws
-    → Gives bytes due at (with_semicolons bytes due at ws)
+    → Yields bytes due at (with_semicolons bytes due at ws)
 complete_from n bytes due at [] le fuel words = absurd words
 complete_from zero bytes due at (t ∷ ts) le fuel words =
     complete_step bytes due at t ts le (λ due' len ws long room words'. absurd (let x : ⊥ = omega arith in x)) words
@@ -408,7 +408,7 @@ complete_from (suc n) bytes due at (t ∷ ts) le fuel words =
     (λ due' len ws long room words'. complete_from n bytes due' (at + len) ws room (omega arith) words') words
 
 -- the outcome of bytes that are a text whole
-pub sound : (bytes : List ℕ) (at : ℕ) (ts : List Token) → at ≤ length bytes → Gives bytes None at ts → AreTokensFrom bytes None at ts
+pub sound : (bytes : List ℕ) (at : ℕ) (ts : List Token) → at ≤ length bytes → Yields bytes None at ts → AreTokensFrom bytes None at ts
 sound bytes at ts le gives = by_ends (outcome bytes None None (place_at bytes at)).ends refl
   where
     by_ends : (ends : Result Token ScanFault) → (outcome bytes None None (place_at bytes at)).ends ≡ ends → AreTokensFrom bytes None at ts
@@ -418,6 +418,6 @@ sound bytes at ts le gives = by_ends (outcome bytes None None (place_at bytes at
         subst (AreTokensFrom bytes None at) all_ (sound_from (length bytes) bytes None at le (omega arith) e is)
     by_ends (Err f) is = absurd (let g : Err f ≡ Ok ts = ap (all_with (outcome bytes None None (place_at bytes at)).front) (sym is) ∙ gives in cc)
 
-pub complete : (bytes : List ℕ) (at : ℕ) (ts : List Token) → at ≤ length bytes → AreTokensFrom bytes None at ts → Gives bytes None at ts
+pub complete : (bytes : List ℕ) (at : ℕ) (ts : List Token) → at ≤ length bytes → AreTokensFrom bytes None at ts → Yields bytes None at ts
 complete bytes at ts le found =
     complete_from (length bytes) bytes None at found.words le (omega arith) found.stand ∙ ap Ok (sym found.tokens)

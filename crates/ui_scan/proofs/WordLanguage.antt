@@ -20,7 +20,7 @@ use Rattle.ui_scan.specs.Language.{IsIdentifier, IsToken}
 use Rattle.ui_scan.specs.Language.IsToken.{identifier, keyword}
 use Rattle.ui_scan.specs.Letters.{front_char, passes, begins_name, name_len}
 use Rattle.ui_scan.specs.Piece.{lexeme, word, word_or_operator, is_decimal}
-use Rattle.ui_scan.specs.Table.{Entry, keywords, spelled, word_kind}
+use Rattle.ui_scan.specs.Table.{Row, keywords, spelled, word_kind}
 use Rattle.ui_scan.specs.declared.kind.TokenKind.{TokenKind}
 use Rattle.ui_scan.specs.declared.kind.TokenKind.TheVariants as k
 use Rattle.ui_scan.specs.declared.kind.ScanKind.TheVariants as fault
@@ -118,11 +118,11 @@ identifier_reads kind text rest is it =
     word_reads kind it.chars text rest it.spelling it.values it.letters (is ∙ sym (ap (λ o. unwrap_or o k.Ident) it.no_keyword))
 
 -- what each entry of a table passes
-pub spelled_passes : (p : List ℕ → Bool) (table : List Entry) (text : List ℕ) (kind : TokenKind) → list_all (λ (entry : Entry). p entry.0) table ≡ true
+pub spelled_passes : (p : List ℕ → Bool) (table : List Row) (text : List ℕ) (kind : TokenKind) → list_all (λ (entry : Row). p entry.0) table ≡ true
     → spelled table text ≡ Some kind → p text ≡ true
 spelled_passes p [] text kind each is = absurd (cc)
 spelled_passes p (entry ∷ table) text kind each is =
-    let parts = and_parts (p entry.0) (list_all (λ (e : Entry). p e.0) table) each in
+    let parts = and_parts (p entry.0) (list_all (λ (e : Row). p e.0) table) each in
     ⊎_elim
     (λ found. subst (λ t. p t ≡ true) ((bytes_eq-Decides entry.0 text).0 found) parts.0)
     (λ other. spelled_passes p table text kind parts.1 (sym (cond-false _ _ _ other) ∙ is))

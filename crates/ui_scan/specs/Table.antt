@@ -10,8 +10,8 @@ use Rattle.ui_scan.specs.declared.piece.Piece.{Piece}
 use Rattle.ui_scan.specs.declared.piece.Piece.TheVariants as piece
 
 -- a word, and the kind that it spells
-abbrev pub Entry : Type 0
-Entry = List ℕ × TokenKind
+abbrev pub Row : Type 0
+Row = List ℕ × TokenKind
 
 -- the kinds of the keywords, in the order of these
 abbrev pub keyword_kinds : List TokenKind
@@ -21,11 +21,11 @@ keyword_kinds =
     ∷ kind.Map ∷ kind.Package ∷ kind.Range ∷ kind.Return ∷ kind.Select ∷ kind.Struct ∷ kind.Switch ∷ kind.Type
     ∷ kind.Var ∷ []
 
-unfoldable pub keywords : List Entry
+unfoldable pub keywords : List Row
 keywords = zip words.keywords keyword_kinds
 
 -- the operators, each before those that it begins with
-unfoldable pub operators : List Entry
+unfoldable pub operators : List Row
 operators =
     (codes "<<=", kind.ShlAssign)
     ∷ (codes ">>=", kind.ShrAssign)
@@ -78,7 +78,7 @@ operators =
     ∷ []
 
 -- the kind of the word in a table
-abbrev pub spelled : List Entry → List ℕ → Option TokenKind
+abbrev pub spelled : List Row → List ℕ → Option TokenKind
 spelled [] word = None
 spelled (entry ∷ table) word = if bytes_eq entry.0 word then Some entry.1 else spelled table word
 
@@ -87,7 +87,7 @@ unfoldable pub word_kind : List ℕ → TokenKind
 word_kind word = unwrap_or (spelled keywords word) kind.Ident
 
 -- the first operator of a table that the bytes begin with
-abbrev pub first_operator : List Entry → List ℕ → Piece
+abbrev pub first_operator : List Row → List ℕ → Piece
 first_operator [] bytes = piece.Fault fault.BadByte 0
 first_operator (entry ∷ table) bytes =
     if starts_with nat_eq bytes entry.0 then piece.Token entry.1 (length entry.0) else first_operator table bytes

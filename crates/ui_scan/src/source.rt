@@ -9,7 +9,7 @@ use crate::letters::byte_at;
 
 /// The part of a file that may hold tokens.
 #[derive(Clone, Copy)]
-pub struct Source<'a> {
+pub struct CleanText<'a> {
     /// The bytes up to the first that no source may have.
     pub text: &'a [u8],
     /// The fault that stands there, if the bytes go on.
@@ -61,7 +61,7 @@ fn mark_len(bytes: &[u8]) -> usize
 
 /// The part of a file that may hold tokens.
 #[tactic(auto, unfolding(crate::specs::Source::text_len, crate::specs::Source::text_fault))]
-pub fn source_of(bytes: &[u8]) -> Source<'_>
+pub fn source_of(bytes: &[u8]) -> CleanText<'_>
     ensures text { result.text.now ≡ take (spec.text_len bytes.now) bytes.now }
     ensures fault { result.fault ≡ spec.text_fault bytes.now }
     ensures mark { result.mark ≡ spec.mark_len bytes.now }
@@ -77,7 +77,7 @@ pub fn source_of(bytes: &[u8]) -> Source<'_>
     } else {
         None
     };
-    Source {
+    CleanText {
         text: &bytes[..mark + clean],
         fault,
         mark,

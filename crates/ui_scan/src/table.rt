@@ -10,18 +10,18 @@ use crate::letters::byte_at;
 use crate::piece::Piece;
 
 // What is spelled, and its kind.
-type Entry = (&'static [u8], TokenKind);
+type Row = (&'static [u8], TokenKind);
 
 // The keywords, by their length.
-const OF_TWO: [Entry; 2] = [(b"go", TokenKind::Go), (b"if", TokenKind::If)];
+const OF_TWO: [Row; 2] = [(b"go", TokenKind::Go), (b"if", TokenKind::If)];
 
-const OF_THREE: [Entry; 3] = [
+const OF_THREE: [Row; 3] = [
     (b"for", TokenKind::For),
     (b"map", TokenKind::Map),
     (b"var", TokenKind::Var),
 ];
 
-const OF_FOUR: [Entry; 6] = [
+const OF_FOUR: [Row; 6] = [
     (b"case", TokenKind::Case),
     (b"chan", TokenKind::Chan),
     (b"else", TokenKind::Else),
@@ -30,14 +30,14 @@ const OF_FOUR: [Entry; 6] = [
     (b"type", TokenKind::Type),
 ];
 
-const OF_FIVE: [Entry; 4] = [
+const OF_FIVE: [Row; 4] = [
     (b"break", TokenKind::Break),
     (b"const", TokenKind::Const),
     (b"defer", TokenKind::Defer),
     (b"range", TokenKind::Range),
 ];
 
-const OF_SIX: [Entry; 5] = [
+const OF_SIX: [Row; 5] = [
     (b"import", TokenKind::Import),
     (b"return", TokenKind::Return),
     (b"select", TokenKind::Select),
@@ -45,19 +45,19 @@ const OF_SIX: [Entry; 5] = [
     (b"switch", TokenKind::Switch),
 ];
 
-const OF_SEVEN: [Entry; 2] = [
+const OF_SEVEN: [Row; 2] = [
     (b"default", TokenKind::Default),
     (b"package", TokenKind::Package),
 ];
 
-const OF_EIGHT: [Entry; 1] = [(b"continue", TokenKind::Continue)];
+const OF_EIGHT: [Row; 1] = [(b"continue", TokenKind::Continue)];
 
-const OF_NINE: [Entry; 1] = [(b"interface", TokenKind::Interface)];
+const OF_NINE: [Row; 1] = [(b"interface", TokenKind::Interface)];
 
-const OF_ELEVEN: [Entry; 1] = [(b"fallthrough", TokenKind::Fallthrough)];
+const OF_ELEVEN: [Row; 1] = [(b"fallthrough", TokenKind::Fallthrough)];
 
 // The operators, by their first byte. Each stands before those that it begins with.
-const LESS_MARKS: [Entry; 5] = [
+const LESS_MARKS: [Row; 5] = [
     (b"<<=", TokenKind::ShlAssign),
     (b"<<", TokenKind::Shl),
     (b"<-", TokenKind::Arrow),
@@ -65,14 +65,14 @@ const LESS_MARKS: [Entry; 5] = [
     (b"<", TokenKind::Less),
 ];
 
-const GREATER_MARKS: [Entry; 4] = [
+const GREATER_MARKS: [Row; 4] = [
     (b">>=", TokenKind::ShrAssign),
     (b">>", TokenKind::Shr),
     (b">=", TokenKind::GreaterEqual),
     (b">", TokenKind::Greater),
 ];
 
-const AND_MARKS: [Entry; 5] = [
+const AND_MARKS: [Row; 5] = [
     (b"&^=", TokenKind::AndNotAssign),
     (b"&=", TokenKind::AndAssign),
     (b"&^", TokenKind::AndNot),
@@ -80,60 +80,60 @@ const AND_MARKS: [Entry; 5] = [
     (b"&", TokenKind::And),
 ];
 
-const PERIOD_MARKS: [Entry; 2] = [(b"...", TokenKind::Ellipsis), (b".", TokenKind::Period)];
+const PERIOD_MARKS: [Row; 2] = [(b"...", TokenKind::Ellipsis), (b".", TokenKind::Period)];
 
-const ADD_MARKS: [Entry; 3] = [
+const ADD_MARKS: [Row; 3] = [
     (b"+=", TokenKind::AddAssign),
     (b"++", TokenKind::Inc),
     (b"+", TokenKind::Add),
 ];
 
-const SUB_MARKS: [Entry; 3] = [
+const SUB_MARKS: [Row; 3] = [
     (b"-=", TokenKind::SubAssign),
     (b"--", TokenKind::Dec),
     (b"-", TokenKind::Sub),
 ];
 
-const MUL_MARKS: [Entry; 2] = [(b"*=", TokenKind::MulAssign), (b"*", TokenKind::Mul)];
+const MUL_MARKS: [Row; 2] = [(b"*=", TokenKind::MulAssign), (b"*", TokenKind::Mul)];
 
-const DIV_MARKS: [Entry; 2] = [(b"/=", TokenKind::DivAssign), (b"/", TokenKind::Div)];
+const DIV_MARKS: [Row; 2] = [(b"/=", TokenKind::DivAssign), (b"/", TokenKind::Div)];
 
-const REM_MARKS: [Entry; 2] = [(b"%=", TokenKind::RemAssign), (b"%", TokenKind::Rem)];
+const REM_MARKS: [Row; 2] = [(b"%=", TokenKind::RemAssign), (b"%", TokenKind::Rem)];
 
-const OR_MARKS: [Entry; 3] = [
+const OR_MARKS: [Row; 3] = [
     (b"|=", TokenKind::OrAssign),
     (b"||", TokenKind::LogicalOr),
     (b"|", TokenKind::Or),
 ];
 
-const XOR_MARKS: [Entry; 2] = [(b"^=", TokenKind::XorAssign), (b"^", TokenKind::Xor)];
+const XOR_MARKS: [Row; 2] = [(b"^=", TokenKind::XorAssign), (b"^", TokenKind::Xor)];
 
-const ASSIGN_MARKS: [Entry; 2] = [(b"==", TokenKind::Equal), (b"=", TokenKind::Assign)];
+const ASSIGN_MARKS: [Row; 2] = [(b"==", TokenKind::Equal), (b"=", TokenKind::Assign)];
 
-const NOT_MARKS: [Entry; 2] = [(b"!=", TokenKind::NotEqual), (b"!", TokenKind::Not)];
+const NOT_MARKS: [Row; 2] = [(b"!=", TokenKind::NotEqual), (b"!", TokenKind::Not)];
 
-const COLON_MARKS: [Entry; 2] = [(b":=", TokenKind::Define), (b":", TokenKind::Colon)];
+const COLON_MARKS: [Row; 2] = [(b":=", TokenKind::Define), (b":", TokenKind::Colon)];
 
-const TILDE_MARKS: [Entry; 1] = [(b"~", TokenKind::Tilde)];
+const TILDE_MARKS: [Row; 1] = [(b"~", TokenKind::Tilde)];
 
-const LPAREN_MARKS: [Entry; 1] = [(b"(", TokenKind::LParen)];
+const LPAREN_MARKS: [Row; 1] = [(b"(", TokenKind::LParen)];
 
-const LBRACKET_MARKS: [Entry; 1] = [(b"[", TokenKind::LBracket)];
+const LBRACKET_MARKS: [Row; 1] = [(b"[", TokenKind::LBracket)];
 
-const LBRACE_MARKS: [Entry; 1] = [(b"{", TokenKind::LBrace)];
+const LBRACE_MARKS: [Row; 1] = [(b"{", TokenKind::LBrace)];
 
-const COMMA_MARKS: [Entry; 1] = [(b",", TokenKind::Comma)];
+const COMMA_MARKS: [Row; 1] = [(b",", TokenKind::Comma)];
 
-const RPAREN_MARKS: [Entry; 1] = [(b")", TokenKind::RParen)];
+const RPAREN_MARKS: [Row; 1] = [(b")", TokenKind::RParen)];
 
-const RBRACKET_MARKS: [Entry; 1] = [(b"]", TokenKind::RBracket)];
+const RBRACKET_MARKS: [Row; 1] = [(b"]", TokenKind::RBracket)];
 
-const RBRACE_MARKS: [Entry; 1] = [(b"}", TokenKind::RBrace)];
+const RBRACE_MARKS: [Row; 1] = [(b"}", TokenKind::RBrace)];
 
-const SEMI_MARKS: [Entry; 1] = [(b";", TokenKind::Semi)];
+const SEMI_MARKS: [Row; 1] = [(b";", TokenKind::Semi)];
 
 // The kind of the word in a table, or `Ident`.
-fn kind_among(mut table: &[Entry], word: &[u8]) -> TokenKind
+fn kind_among(mut table: &[Row], word: &[u8]) -> TokenKind
     ensures { result ≡ unwrap_or (spec.spelled (map (λ e. (e.0.now, e.1)) table.entry.now) word.now) Ident }
 {
     while let [entry, rest @ ..] = table {
@@ -146,7 +146,7 @@ fn kind_among(mut table: &[Entry], word: &[u8]) -> TokenKind
 }
 
 // The keywords of a length.
-fn keywords_of(len: usize) -> &'static [Entry]
+fn keywords_of(len: usize) -> &'static [Row]
     ensures { (word : List ℕ) → length word ≡ len → spec.spelled (map (λ e. (e.0.now, e.1)) result.now) word ≡ spec.spelled spec.keywords word }
 {
     match len {
@@ -179,7 +179,7 @@ fn begins_with(bytes: &[u8], mark: &[u8]) -> bool
 }
 
 // The first operator of a table that the bytes begin with.
-fn first_operator(mut table: &[Entry], bytes: &[u8]) -> Piece
+fn first_operator(mut table: &[Row], bytes: &[u8]) -> Piece
     ensures { result ≡ spec.first_operator (map (λ e. (e.0.now, e.1)) table.entry.now) bytes.now }
 {
     while let [entry, rest @ ..] = table {
@@ -198,7 +198,7 @@ fn first_operator(mut table: &[Entry], bytes: &[u8]) -> Piece
 }
 
 // The operators that begin with a byte.
-fn operators_from(first: u8) -> &'static [Entry]
+fn operators_from(first: u8) -> &'static [Row]
     ensures { (bytes : List ℕ) → slice_index bytes 0 ≡ first → spec.first_operator (map (λ e. (e.0.now, e.1)) result.now) bytes ≡ spec.operator bytes }
 {
     match first {

@@ -17,7 +17,7 @@ use Rattle.ui_syntax.specs.Read.{readers}
 use Rattle.ui_syntax.proofs.ByBudget.{Begun, Stops, TypeForm, IsMaybeRead}
 use Rattle.ui_syntax.proofs.Begun.{short_mark, short_type, frame_name, begun_as, begun_none, begun_stops, stops_as, behind, behind_word, before, mark_at}
 use Rattle.ui_syntax.proofs.FirstWords.{begins_spelled_type}
-use Rattle.ui_syntax.proofs.Runs.{Form, run_end}
+use Rattle.ui_syntax.proofs.Runs.{FormOf, run_end}
 use Rattle.ui_syntax.proofs.SteadyTypes.{steady_a_type, steady_a_lower_type, steady_an_element, steady_param, steady_field, steady_term}
 use Rattle.ui_syntax.proofs.Steady.{readers_steady}
 use Rattle.ui_syntax.proofs.SoundTypesLists.{TypeFits, TypeOk, GoodTypes, good_one}
@@ -41,7 +41,7 @@ module _ (room : ℕ) where
   unfolding readers maybe_type
   plain_sound ts = (readers_sound (suc room)).own.type at.Plain ts
 
-  union_bound : (us ws : List Word) → Form Terms (GoodTypes term budget) us ws → TypeFits bound budget us ws
+  union_bound : (us ws : List Word) → FormOf Terms (GoodTypes term budget) us ws → TypeFits bound budget us ws
   union_bound us ws h = by_terms h.all h.spells h.ok
     where
       by_terms : (all : List TypeTree) → Terms all us ws → GoodTypes term budget all → TypeFits bound budget us ws

@@ -15,7 +15,7 @@ use Rattle.ui_parse.proofs.Outcomes.{Holds, good, bad, bind, mono, choose, mark_
 use Rattle.ui_syntax.specs.Types.{Listed, add, empty}
 use Rattle.ui_syntax.proofs.ByBudget.{Begun, Stops}
 use Rattle.ui_syntax.proofs.Begun.{Short, short_as, short_mark, short_then, no_spot, Is, begun_as, begun_none, behind, behind_none, before, frame_word}
-use Rattle.ui_syntax.proofs.Runs.{Form, Lead, lead_next, lead_same, lead_whole, lead_begun}
+use Rattle.ui_syntax.proofs.Runs.{FormOf, Lead, lead_next, lead_same, lead_whole, lead_begun}
 use Rattle.ui_stmts.specs.Common.{Sized, maybe}
 use Rattle.ui_stmts.specs.Stmts.{NestedStmt, Ended, ended, behind_stmt, one_stmt, body_from, body, a_body}
 use Rattle.ui_stmts.proofs.ByBudget.{StmtForm, IsStmtRead, whole, any, AreStmtsSound}
@@ -67,7 +67,7 @@ module _ (room : ℕ) where
   GoodRest x = FitsStmts (stmts x.items) × stmts_depth (stmts x.items) ≤ room
 
   abbrev pub RestForm : Spelling
-  RestForm = Form Rest_of GoodRest
+  RestForm = FormOf Rest_of GoodRest
 
   pub record StmtsFit (l : Listed Stmt) : Type 0 where
     pub fits : FitsStmts (stmts l.items)

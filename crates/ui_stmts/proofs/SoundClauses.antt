@@ -13,7 +13,7 @@ use Rattle.ui_grammar.proofs.Frames.{Spelling, Then, next, frame_mark}
 use Rattle.ui_syntax.specs.Types.{empty}
 use Rattle.ui_syntax.proofs.ByBudget.{Begun}
 use Rattle.ui_syntax.proofs.Begun.{Short, short_as, short_mark, Is, begun_none}
-use Rattle.ui_syntax.proofs.Runs.{Form, Lead, lead_next, lead_as, lead_same, lead_whole, lead_begun}
+use Rattle.ui_syntax.proofs.Runs.{FormOf, Lead, lead_next, lead_as, lead_same, lead_whole, lead_begun}
 use Rattle.ui_stmts.specs.Common.{Sized, sized}
 use Rattle.ui_stmts.specs.Stmts.{Open, Body, no_clauses, with_open, clauses_of, open_clause}
 use Rattle.ui_stmts.proofs.SoundLists.{ExprsForm}
@@ -91,13 +91,13 @@ module _ (room : ℕ) where
   GoodClauses cs = FitsClauses cs × clauses_depth cs ≤ room
 
   abbrev pub ClausesForm : Spelling
-  ClausesForm = Form Clauses_to GoodClauses
+  ClausesForm = FormOf Clauses_to GoodClauses
 
   abbrev pub GoodInside : Inside → Type 0
   GoodInside x = FitsStmts (stmts x.items) × FitsClauses x.others × stmts_depth (stmts x.items) ≤ room × clauses_depth x.others ≤ room
 
   abbrev pub InsideForm : Spelling
-  InsideForm = Form Inside_to GoodInside
+  InsideForm = FormOf Inside_to GoodInside
 
   pub record ClausesRead (ts : List Word) (cs : Sized Clauses) (rest : List Word) : Type 0 where
     pub spells : Clauses_to cs.of ts rest

@@ -15,7 +15,7 @@ use Rattle.ui_parse.proofs.Alike.{suffix_length}
 use Rattle.ui_parse.proofs.Steady.{Steady}
 use Rattle.ui_syntax.proofs.ByBudget.{Begun, Stops}
 use Rattle.ui_syntax.proofs.Begun.{Short, short_mark, short_then, AName, short_name, frame_name, begun_as, behind, behind_none, before}
-use Rattle.ui_syntax.proofs.Runs.{Form, Run, run_next, run_end, run_begun}
+use Rattle.ui_syntax.proofs.Runs.{FormOf, Run, run_next, run_end, run_begun}
 use Rattle.ui_stmts.specs.Common.{Sized}
 use Rattle.ui_stmts.specs.Stmts.{stmt_readers}
 use Rattle.ui_stmts.proofs.ByBudget.{AreStmtsSound}
@@ -30,9 +30,9 @@ PartRead P Ok ts None rest = ts ≡ rest
 PartRead P Ok ts (Some x) rest = P x ts rest × Ok x
 
 module _ {X : Type 0} (room : ℕ) (P : X → Spelling) (Ok : X → Type 0) (frame_one : (x : X) (ts rest : List Word) → P x ts rest → Framed (P x) ts rest) (p : Reader (Option X)) (p_is : Steady p)
-    (p_holds : (ts : List Word) → Holds (PartRead P Ok ts) (Begun (Form P Ok) ts) (p ts)) where
+    (p_holds : (ts : List Word) → Holds (PartRead P Ok ts) (Begun (FormOf P Ok) ts) (p ts)) where
   abbrev pub EachForm : Spelling
-  EachForm = Form (SpellsEach P) (AllSpecs Ok)
+  EachForm = FormOf (SpellsEach P) (AllSpecs Ok)
 
   all_append : (xs ys : List X) → AllSpecs Ok xs → AllSpecs Ok ys → AllSpecs Ok (xs ++ ys)
   all_append [] ys h g = g
@@ -47,13 +47,13 @@ module _ {X : Type 0} (room : ℕ) (P : X → Spelling) (Ok : X → Type 0) (fra
       pub spells : SpellsEach P l ts rest
       pub fits : AllSpecs Ok l
 
-    one_form : (us ws : List Word) → Then (Form P Ok) (Mark Semi) us ws → EachForm us ws
+    one_form : (us ws : List Word) → Then (FormOf P Ok) (Mark Semi) us ws → EachForm us ws
     one_form us ws (a, x, m) = record { all = x.all ∷ []; spells = (a, ws, x.spells, m, refl); ok = (x.ok, tt) }
 
-    part_fault : (l : List X) (ws rest : List Word) → EachAt l ws → Begun (Then (Form P Ok) (Mark Semi)) ws rest → Begun EachForm ts rest
+    part_fault : (l : List X) (ws rest : List Word) → EachAt l ws → Begun (Then (FormOf P Ok) (Mark Semi)) ws rest → Begun EachForm ts rest
     part_fault l ws rest j g = run_begun (SpellsEach P) (SpellsEach P) {Ok1 = AllSpecs Ok} {Ok2 = AllSpecs Ok} l ts ws rest j.run (λ us h. all_append l us j.fits h) (begun_as g one_form)
 
-    frame_part : (x : X) (ws m : List Word) → P x ws m → Ok x → Framed (Form P Ok) ws m
+    frame_part : (x : X) (ws m : List Word) → P x ws m → Ok x → Framed (FormOf P Ok) ws m
     frame_part x ws m h ok = framed_as (frame_one x ws m h) (λ us vs q. record { all = x; spells = q; ok = ok })
 
     next_part : (l : List X) (x : X) (ws m rest : List Word) → EachAt l ws → P x ws m → Ok x → Mark Semi m rest → EachAt (l ++ (x ∷ [])) rest
@@ -111,7 +111,7 @@ module _ (room : ℕ) where
   all_shallow [] h = omega arith
   all_shallow (d ∷ ds) h = omega (arith, h.0.1, all_shallow ds h.1)
 
-  import_part : (ts : List Word) → Holds (PartRead SpellsImport AnyOne ts) (Begun (Form SpellsImport AnyOne) ts) (maybe_import room ts)
+  import_part : (ts : List Word) → Holds (PartRead SpellsImport AnyOne ts) (Begun (FormOf SpellsImport AnyOne) ts) (maybe_import room ts)
   import_part ts = mono (maybe_import_holds room ts) as_part (λ r g. begun_as g (λ us ws h. record { all = h.all; spells = h.spells; ok = tt }))
     where
       as_part : (x : Option Import) (r : List Word) → ImportRead ts x r → PartRead SpellsImport AnyOne ts x r
@@ -119,18 +119,18 @@ module _ (room : ℕ) where
       as_part (Some i) r h = (h, tt)
 
   module _ (sound : AreStmtsSound (suc room) (stmt_readers (suc room))) where
-    part_of_decl : (ts : List Word) → Holds (PartRead SpellsDecl GoodDecl ts) (Begun (Form SpellsDecl GoodDecl) ts) (decl_part room ts)
+    part_of_decl : (ts : List Word) → Holds (PartRead SpellsDecl GoodDecl ts) (Begun (FormOf SpellsDecl GoodDecl) ts) (decl_part room ts)
     part_of_decl ts = bind (maybe_decl_holds room sound ts) as_part (λ r g. begun_as g (λ us ws h. record { all = h.all; spells = h.spells; ok = (h.fits, h.shallow) }))
       where
-        as_part : (x : Option (Sized Decl)) (r : List Word) → MaybeDeclRead room ts x r → Holds (PartRead SpellsDecl GoodDecl ts) (Begun (Form SpellsDecl GoodDecl) ts) (pure (decl_alone room x) r)
+        as_part : (x : Option (Sized Decl)) (r : List Word) → MaybeDeclRead room ts x r → Holds (PartRead SpellsDecl GoodDecl ts) (Begun (FormOf SpellsDecl GoodDecl) ts) (pure (decl_alone room x) r)
         as_part None r e = good e
         as_part (Some d) r h = good (h.spells, (h.fits, omega (arith, h.sized, h.shallow)))
 
     abbrev Imports : Spelling
-    Imports = Form (SpellsEach SpellsImport) (AllSpecs AnyOne)
+    Imports = FormOf (SpellsEach SpellsImport) (AllSpecs AnyOne)
 
     abbrev Declarations : Spelling
-    Declarations = Form (SpellsEach SpellsDecl) (AllSpecs GoodDecl)
+    Declarations = FormOf (SpellsEach SpellsDecl) (AllSpecs GoodDecl)
 
     file_form : (us ws : List Word) → Then (Mark Package) (Then AName (Then (Mark Semi) (Then Imports Declarations))) us ws → FileForm us ws
     file_form us ws (a, s, (b, n, (c, m, (d, is, ds)))) = record {

@@ -14,7 +14,7 @@ use Rattle.ui_parse.specs.Reader.{refuse}
 use Rattle.ui_parse.proofs.Outcomes.{Holds, good, bad, bind, mark_holds, name_holds, expect_holds, expect_name_holds}
 use Rattle.ui_syntax.proofs.ByBudget.{Begun, Stops}
 use Rattle.ui_syntax.proofs.Begun.{Short, short_as, short_mark, short_then, AName, short_name, Is, frame_word, begun_as, begun_none, begun_stops, behind, behind_none, before}
-use Rattle.ui_syntax.proofs.Runs.{Form}
+use Rattle.ui_syntax.proofs.Runs.{FormOf}
 use Rattle.ui_syntax.specs.Read.{readers}
 use Rattle.ui_syntax.proofs.Steady.{readers_steady}
 use Rattle.ui_syntax.proofs.SteadyTypes.{steady_a_lower_type, steady_param}
@@ -142,7 +142,7 @@ module _ (room : ℕ) where
     shallow = omega (arith, gs.ok.fit.shallow, r.shallow);
   }
 
-  short_params : Short (Form Whole (GoodGroups room))
+  short_params : Short (FormOf Whole (GoodGroups room))
   short_params = short_as (short_mark RParen) (λ us ws m. record { all = []; spells = m; ok = record { styled = refl; fit = record { fits = tt; shallow = omega arith } } })
 
   pub short_signature : Short SignatureForm

@@ -21,7 +21,7 @@ use Rattle.ui_syntax.specs.Read.{place_of, expr, place_at}
 use Rattle.ui_syntax.proofs.ByBudget.{Begun, Stops}
 use Rattle.ui_syntax.proofs.Places.{depth_positive}
 use Rattle.ui_syntax.proofs.Begun.{Short, short_as, x_name, short_name, begun_as, stops_as, begun_stops, behind, behind_none}
-use Rattle.ui_syntax.proofs.Runs.{Form, lead_begun, Run, run_first, run_next, run_end, run_begun}
+use Rattle.ui_syntax.proofs.Runs.{FormOf, lead_begun, Run, run_first, run_next, run_end, run_begun}
 use Rattle.ui_syntax.proofs.Steady.{expr_steady}
 use Rattle.ui_syntax.proofs.SoundExprsTrees.{PartForm, IsPart, AreParts, fits_append, depth_append}
 use Rattle.ui_syntax.proofs.Sound.{expr_sound}
@@ -88,7 +88,7 @@ good_append es fs p b h g = (fits_append es fs p h.0 g.0, omega (arith, depth_ap
 
 -- expressions that fit in the place, within the depth
 abbrev pub ExprsForm : Place → ℕ → Spelling
-ExprsForm p b = Form Exprs (GoodExprs p b)
+ExprsForm p b = FormOf Exprs (GoodExprs p b)
 
 -- what was read of a list, up to ws
 pub record ExprsAt (p : Place) (b : ℕ) (ts : List Word) (l : Listed Tree) (ws : List Word) : Type 0 where
@@ -151,7 +151,7 @@ module _ (header : Bool) (b : ℕ) where
 -- ---- names
 
 abbrev pub NamesForm : Spelling
-NamesForm = Form Names (λ ns. Unit {0})
+NamesForm = FormOf Names (λ ns. Unit {0})
 
 pub short_names : Short NamesForm
 short_names = record { words = ident x_name ∷ []; spells = λ k. record { all = x_name ∷ []; spells = (k, refl, refl); ok = tt } }

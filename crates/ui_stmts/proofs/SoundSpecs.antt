@@ -14,7 +14,7 @@ use Rattle.ui_parse.proofs.TurnLaws.{KeepsParts, parts_holds}
 use Rattle.ui_syntax.specs.Types.{Listed, add, empty, any_end}
 use Rattle.ui_syntax.proofs.ByBudget.{Begun, Stops}
 use Rattle.ui_syntax.proofs.Begun.{short_as, short_mark, begun_as, begun_none, stops_as, behind, behind_none, before, mark_at}
-use Rattle.ui_syntax.proofs.Runs.{Form, Run, run_first, run_next, run_end, run_begun}
+use Rattle.ui_syntax.proofs.Runs.{FormOf, Run, run_first, run_next, run_end, run_begun}
 use Rattle.ui_stmts.specs.Common.{Sized, sized, one_spec, one_spec_more, specs}
 
 module _ {S : Type 0} (P : S → Spelling) (F : S → Type 0) (D : S → ℕ) (b : ℕ) where
@@ -23,7 +23,7 @@ module _ {S : Type 0} (P : S → Spelling) (F : S → Type 0) (D : S → ℕ) (b
   GoodSpec s = F s × D s ≤ b
 
   abbrev pub SpecForm : Spelling
-  SpecForm = Form P GoodSpec
+  SpecForm = FormOf P GoodSpec
 
   pub record SpecRead (ts : List Word) (s : Sized S) (rest : List Word) : Type 0 where
     pub spells : P s.of ts rest
@@ -35,7 +35,7 @@ module _ {S : Type 0} (P : S → Spelling) (F : S → Type 0) (D : S → ℕ) (b
   GoodSpecs ss = FitsSpecs F ss × specs_depth D ss ≤ b
 
   abbrev pub SpecsForm : Spelling
-  SpecsForm = Form (SpellsSpecs P) GoodSpecs
+  SpecsForm = FormOf (SpellsSpecs P) GoodSpecs
 
   pub record SpecsRead (ts : List Word) (s : Sized (Specs S)) (rest : List Word) : Type 0 where
     pub spells : SpellsSpecs P s.of ts rest
@@ -60,7 +60,7 @@ module _ {S : Type 0} (P : S → Spelling) (F : S → Type 0) (D : S → ℕ) (b
   good_append ss us h g = (all_append ss us h.0 g.0, omega (arith, deepest_append ss us, h.1, g.1))
 
   abbrev ListForm : Spelling
-  ListForm = Form (SpecsList P) GoodList
+  ListForm = FormOf (SpecsList P) GoodList
 
   record ListFits (l : Listed S) : Type 0 where
     fits : AllSpecs F l.items

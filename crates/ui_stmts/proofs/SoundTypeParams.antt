@@ -16,7 +16,7 @@ use Rattle.ui_syntax.specs.Types.{group, is_empty}
 use Rattle.ui_syntax.specs.Cover.{Read}
 use Rattle.ui_syntax.proofs.ByBudget.{Begun}
 use Rattle.ui_syntax.proofs.Begun.{Short, short_as, short_mark, short_then, x_name, no_spot, AName, short_name, Is, begun_as, begun_none}
-use Rattle.ui_syntax.proofs.Runs.{Form, Lead, lead_next, lead_same, lead_whole, lead_begun}
+use Rattle.ui_syntax.proofs.Runs.{FormOf, Lead, lead_next, lead_same, lead_whole, lead_begun}
 use Rattle.ui_syntax.proofs.SoundTypesLists.{TypeFits}
 use Rattle.ui_syntax.proofs.SoundTypesGroups.{fits_groups_append, groups_depth_append, named_append}
 use Rattle.ui_stmts.specs.Decls.{TypeParams, add_bound}
@@ -123,7 +123,7 @@ module _ (b : ℕ) where
       pub apart_is : Apart apart gs
 
     abbrev pub ParamsForm : Spelling
-    ParamsForm = Form Whole AreParams
+    ParamsForm = FormOf Whole AreParams
 
     pub record ParamsRead (ps : TypeParams) (rest : List Word) : Type 0 where
       pub spells : Whole ps.groups ts rest
@@ -164,7 +164,7 @@ module _ (b : ℕ) where
     abbrev pub OneMore : Spelling
     OneMore = Then AName (Then (TypeFits bound b) (Mark RBracket))
 
-    one_more_form : (waiting : List Placed) (us ws : List Word) → OneMore us ws → Form (Starts waiting) (Grows waiting) us ws
+    one_more_form : (waiting : List Placed) (us ws : List Word) → OneMore us ws → FormOf (Starts waiting) (Grows waiting) us ws
     one_more_form waiting us ws (m, n, (k, t, close)) = record {
       all = group (waiting ++ (n.word ∷ [])) t.tree ∷ [];
       spells = (n.word, [], m, k, refl, (m, n.is, refl), t.spells, inl close);
@@ -214,7 +214,7 @@ module _ (b : ℕ) where
       apart_is = plain_apart apart gs w ws g.of g.no_length;
     })
 
-    waiting_form : (w : Placed) (ws : List Placed) (us rs : List Word) → Then PlainBound (Mark RBracket) us rs → Form (Goes (w ∷ ws)) (AreWaiting w ws) us rs
+    waiting_form : (w : Placed) (ws : List Placed) (us rs : List Word) → Then PlainBound (Mark RBracket) us rs → FormOf (Goes (w ∷ ws)) (AreWaiting w ws) us rs
     waiting_form w ws us rs (k, t, close) = record {
       all = group (w ∷ ws) t.tree ∷ [];
       spells = ([], us, k, sym (append-nil (w ∷ ws)), refl, t.spells, inl close);

@@ -6,7 +6,7 @@ use Rattle.ui_grammar.proofs.Frames.{Spelling, Framed}
 use Rattle.ui_syntax.proofs.ByBudget.{Begun}
 
 -- a form with this property
-pub record Form {X : Type 0} (R : X → Spelling) (Ok : X → Type 0) (ts rest : List Word) : Type 0 where
+pub record FormOf {X : Type 0} (R : X → Spelling) (Ok : X → Type 0) (ts rest : List Word) : Type 0 where
   pub all : X
   pub spells : R all ts rest
   pub ok : Ok all
@@ -38,14 +38,14 @@ lead_same {T = T} f g ts ws run same = record { front = run.front; parts = run.p
 pub lead_whole : {X Y : Type 0} {S : X → Spelling} {T : Y → Spelling} (f : X → Y) (ts ws rest : List Word) (x : X) → Lead S T f ts ws → S x ws rest → T (f x) ts rest
 lead_whole {T = T} f ts ws rest x run h = subst (λ (v : List Word). T (f x) v rest) (sym run.parts) (run.again x ws rest h)
 
-pub lead_begun : {X Y : Type 0} {S : X → Spelling} {T : Y → Spelling} {Ok1 : X → Type 0} {Ok2 : Y → Type 0} (f : X → Y) (ts ws rest : List Word) → Lead S T f ts ws → ((x : X) → Ok1 x → Ok2 (f x)) → Begun (Form S Ok1) ws rest → Begun (Form T Ok2) ts rest
+pub lead_begun : {X Y : Type 0} {S : X → Spelling} {T : Y → Spelling} {Ok1 : X → Type 0} {Ok2 : Y → Type 0} (f : X → Y) (ts ws rest : List Word) → Lead S T f ts ws → ((x : X) → Ok1 x → Ok2 (f x)) → Begun (FormOf S Ok1) ws rest → Begun (FormOf T Ok2) ts rest
 lead_begun {T = T} {Ok2 = Ok2} f ts ws rest run join g = record {
   front = run.front ++ g.front;
   parts = run.parts ∙ ap (λ (v : List Word). run.front ++ v) g.parts ∙ sym (append_assoc run.front g.front rest);
   more = g.more;
   spells = λ k.
       let h = g.spells k in
-      subst (λ (v : List Word). Form T Ok2 v k) (sym (append_assoc run.front g.front (g.more ++ k)))
+      subst (λ (v : List Word). FormOf T Ok2 v k) (sym (append_assoc run.front g.front (g.more ++ k)))
       (record { all = f h.all; spells = run.again h.all (g.front ++ (g.more ++ k)) k h.spells; ok = join h.all h.ok });
 }
 
@@ -67,5 +67,5 @@ module _ {I : Type 0} (Tail Whole : List I → Spelling) where
   run_end items ts ws rest run h = subst (λ (v : List I). Whole v ts rest) (append-nil items) (lead_whole (λ us. items ++ us) ts ws rest [] run h)
 
   -- what follows is begun
-  pub run_begun : {Ok1 Ok2 : List I → Type 0} (items : List I) (ts ws rest : List Word) → Run Tail Whole items ts ws → ((us : List I) → Ok1 us → Ok2 (items ++ us)) → Begun (Form Tail Ok1) ws rest → Begun (Form Whole Ok2) ts rest
+  pub run_begun : {Ok1 Ok2 : List I → Type 0} (items : List I) (ts ws rest : List Word) → Run Tail Whole items ts ws → ((us : List I) → Ok1 us → Ok2 (items ++ us)) → Begun (FormOf Tail Ok1) ws rest → Begun (FormOf Whole Ok2) ts rest
   run_begun items ts ws rest run join g = lead_begun (λ us. items ++ us) ts ws rest run join g

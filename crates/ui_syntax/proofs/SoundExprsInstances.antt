@@ -21,7 +21,7 @@ use Rattle.ui_syntax.specs.Types.{Nested, Listed, add, only, any_end, one_more, 
 use Rattle.ui_syntax.specs.Exprs.{instance_of, instance_behind, behind_index, indexed}
 use Rattle.ui_syntax.proofs.ByBudget.{Begun, Stops, CoverForm, IsSoundAt}
 use Rattle.ui_syntax.proofs.Begun.{short_mark, begun_as, behind, behind_none, before}
-use Rattle.ui_syntax.proofs.Runs.{Form, run_first}
+use Rattle.ui_syntax.proofs.Runs.{FormOf, run_first}
 use Rattle.ui_syntax.proofs.Covers.{type_of_tree}
 use Rattle.ui_syntax.proofs.SoundTypesLists.{TypeFits, TypeOk, GoodTypes, TypesTail, TypesAt, TypesRead, ok_only, ok_add, good_one, more_is, more_types_holds}
 use Rattle.ui_syntax.proofs.SoundTypesRead.{type_ok}
@@ -60,7 +60,7 @@ module _ (room : ℕ) (inner : Nested) (own : IsSoundAt room inner.level inner.m
   AreRead rest = TypesRead Comma RBracket plain_type room Whole rest
 
   abbrev AreFaults : List Word → List Word → Type 0
-  AreFaults rest = Begun (Form Whole (GoodTypes plain_type room)) rest
+  AreFaults rest = Begun (FormOf Whole (GoodTypes plain_type room)) rest
 
   -- behind a first type that is no expression
   more_args_sound : (rest m : List Word) (t : TypeTree) (k : ℕ) → SpellsType t rest m → FitsType t plain_type → is_expression t ≡ false → type_depth t ≡ k → k ≤ room
@@ -75,10 +75,10 @@ module _ (room : ℕ) (inner : Nested) (own : IsSoundAt room inner.level inner.m
     comma : Framed (Then (SpellsType t) (Mark Comma)) rest n
     comma = frame_to Comma s (frame_type t rest m h) at_comma
 
-    one_alone : (us ws : List Word) → Then (Then (SpellsType t) (Mark Comma)) (Mark RBracket) us ws → Form Whole (GoodTypes plain_type room) us ws
+    one_alone : (us ws : List Word) → Then (Then (SpellsType t) (Mark Comma)) (Mark RBracket) us ws → FormOf Whole (GoodTypes plain_type room) us ws
     one_alone us ws q = record { all = t ∷ []; spells = (q.1.0, q.1.1, instance_comma (is_expression t) q.1.0 ws (q.0, q.1.2, q.2)); ok = good_one t plain_type room fits (omega (arith, sized, le)) }
 
-    one_and : (us ws : List Word) → Then (Then (SpellsType t) (Mark Comma)) (Then (TypeFits plain_type room) (Mark RBracket)) us ws → Form Whole (GoodTypes plain_type room) us ws
+    one_and : (us ws : List Word) → Then (Then (SpellsType t) (Mark Comma)) (Then (TypeFits plain_type room) (Mark RBracket)) us ws → FormOf Whole (GoodTypes plain_type room) us ws
     one_and us ws q = let u = q.2.1 in record {
       all = t ∷ (u.tree ∷ []);
       spells = (q.1.0, q.1.1, instance_more (is_expression t) u.tree types_end q.1.0 ws (q.0, q.2.0, q.1.2, u.spells, inl q.2.2));
@@ -119,7 +119,7 @@ module _ (room : ℕ) (inner : Nested) (own : IsSoundAt room inner.level inner.m
     abbrev Out : Read Tree → List Word → Type 0
     Out = Reads room inner own site ts
 
-    all_follow : (us ws : List Word) → Form Whole (GoodTypes plain_type room) us ws → Goes us ws
+    all_follow : (us ws : List Word) → FormOf Whole (GoodTypes plain_type room) us ws → Goes us ws
     all_follow us ws h = instance_follows room inner own site ts f m is (types h.all) h.ok.0 h.ok.1 us ws h.spells
 
     instance_good : (us : Listed TypeTree) (r : List Word) → AreRead rest us r → Out (instance_of room inner f us) r

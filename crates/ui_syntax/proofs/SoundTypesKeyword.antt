@@ -19,7 +19,7 @@ use Rattle.ui_syntax.specs.Cover.{Read}
 use Rattle.ui_syntax.specs.Types.{Nested, Listed, Params, a_lower_type, an_element, param, field, struct_type, interface_type, map_type, bracket_type, func_of, func_type, opened, deep_type, operand_type}
 use Rattle.ui_syntax.proofs.ByBudget.{Begun, Stops, TypeForm, IsMaybeRead, IsSoundAt}
 use Rattle.ui_syntax.proofs.Begun.{Short, short_as, short_mark, short_then, begun_as, behind_word, expect_then, mark_at}
-use Rattle.ui_syntax.proofs.Runs.{Form}
+use Rattle.ui_syntax.proofs.Runs.{FormOf}
 use Rattle.ui_syntax.proofs.SoundTypesLists.{GoodTypes, AllTypes, all_types_holds}
 use Rattle.ui_syntax.proofs.SoundTypesRead.{type_ok, or_refuse_holds, opened_holds, element_ok}
 use Rattle.ui_syntax.proofs.SoundTypesGroups.{fit_none}
@@ -31,19 +31,19 @@ use Rattle.ui_syntax.proofs.SoundTypesOperand.{OperandSite, OperandRead, Operand
 
 -- ---- the shortest of lists in parentheses or braces
 
-short_params : (room : ℕ) → Short (Form Whole (GoodGroups room))
+short_params : (room : ℕ) → Short (FormOf Whole (GoodGroups room))
 short_params room = short_as (short_mark RParen) (λ us rs m. record { all = []; spells = m; ok = record { styled = refl; fit = fit_none room } })
 
 pub short_sig : (room : ℕ) → Short (SigForm room)
 short_sig room = short_then (short_params room) (short_result room)
 
-short_fields : (room : ℕ) → Short (Form Fields (FieldsOk room))
+short_fields : (room : ℕ) → Short (FormOf Fields (FieldsOk room))
 short_fields room = short_as (short_mark RBrace) (λ us rs m. record { all = []; spells = m; ok = (refl, fit_none room) })
 
 abbrev Elements : List TypeTree → Spelling
 Elements = AllTypes Semi RBrace
 
-short_elements : (room : ℕ) → Short (Form Elements (GoodTypes interface_element room))
+short_elements : (room : ℕ) → Short (FormOf Elements (GoodTypes interface_element room))
 short_elements room = short_as (short_mark RBrace) (λ us rs m. record { all = []; spells = m; ok = (tt, omega arith) })
 
 module _ (room low : ℕ) (inner : Nested) (below : 2 ≤ room → suc low ≤ room) (own : IsSoundAt room inner.level inner.maybe_type) (lower : IsSoundAt low inner.lower_level inner.lower_maybe_type)

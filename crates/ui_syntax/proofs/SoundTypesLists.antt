@@ -16,7 +16,7 @@ use Rattle.ui_syntax.specs.Cover.{Read}
 use Rattle.ui_syntax.specs.Types.{Listed, add, only, empty, any_end, one_more}
 use Rattle.ui_syntax.proofs.ByBudget.{Begun, Stops}
 use Rattle.ui_syntax.proofs.Begun.{short_as, short_mark, begun_as, begun_none, behind, behind_none, before}
-use Rattle.ui_syntax.proofs.Runs.{Form, Run, run_first, run_next, run_end, run_begun}
+use Rattle.ui_syntax.proofs.Runs.{FormOf, Run, run_first, run_next, run_end, run_begun}
 
 -- ---- one type
 
@@ -87,13 +87,13 @@ module _ (separator close : TokenKind) where
 
   module _ (q : TypePlace) (b : ℕ) where
     -- a tail of no type, or of one
-    pub tail_none : (ws : List Word) → Begun (Form TypesTail (GoodTypes q b)) ws ws
+    pub tail_none : (ws : List Word) → Begun (FormOf TypesTail (GoodTypes q b)) ws ws
     tail_none ws = begun_none ws (short_as (short_mark close) (λ us rs m. record { all = []; spells = inl m; ok = (tt, omega arith) }))
 
-    pub tail_separated : (x : Spot) (ws rest : List Word) → ws ≡ mark separator x ∷ rest → Begun (Form TypesTail (GoodTypes q b)) ws rest
+    pub tail_separated : (x : Spot) (ws rest : List Word) → ws ≡ mark separator x ∷ rest → Begun (FormOf TypesTail (GoodTypes q b)) ws rest
     tail_separated x ws rest e = begun_as (behind_none (frame_mark separator ws rest (record { spot = x; is = e })) (short_mark close)) (λ us rs h. record { all = []; spells = inr h; ok = (tt, omega arith) })
 
-    pub tail_begun : (x : Spot) (ws rest last : List Word) → ws ≡ mark separator x ∷ rest → Begun (TypeFits q b) rest last → Begun (Form TypesTail (GoodTypes q b)) ws last
+    pub tail_begun : (x : Spot) (ws rest last : List Word) → ws ≡ mark separator x ∷ rest → Begun (TypeFits q b) rest last → Begun (FormOf TypesTail (GoodTypes q b)) ws last
     tail_begun x ws rest last e g = begun_as (behind (frame_mark separator ws rest (record { spot = x; is = e })) (before g (short_mark close)))
         (λ us rs h. let t = h.2.1 in record { all = t.tree ∷ []; spells = (h.0, h.2.0, h.1, t.spells, inl h.2.2); ok = good_one t.tree q b t.fits t.shallow })
 
@@ -108,13 +108,13 @@ module _ (separator close : TokenKind) where
         pub ok : TypesOk q b l
 
       abbrev pub TypesFault : List Word → Type 0
-      TypesFault rest = Begun (Form Whole (GoodTypes q b)) ts rest
+      TypesFault rest = Begun (FormOf Whole (GoodTypes q b)) ts rest
 
-      from_run : (l : Listed TypeTree) (ws rest : List Word) → TypesAt l ws → Begun (Form TypesTail (GoodTypes q b)) ws rest → TypesFault rest
+      from_run : (l : Listed TypeTree) (ws rest : List Word) → TypesAt l ws → Begun (FormOf TypesTail (GoodTypes q b)) ws rest → TypesFault rest
       from_run l ws rest j g = run_begun TypesTail Whole l.items ts ws rest j.run (λ us h. good_append l.items us q b (ok_good q b l j.ok) h) g
 
       next_stops : (l : Listed TypeTree) (x : Spot) (ws rest last : List Word) → TypesAt l ws → ws ≡ mark separator x ∷ rest → Stops (TypeFits q b) rest last → TypesFault last
-      next_stops l x ws rest last j e (inl same) = from_run l ws last j (subst (λ (v : List Word). Begun (Form TypesTail (GoodTypes q b)) ws v) same (tail_separated x ws rest e))
+      next_stops l x ws rest last j e (inl same) = from_run l ws last j (subst (λ (v : List Word). Begun (FormOf TypesTail (GoodTypes q b)) ws v) same (tail_separated x ws rest e))
       next_stops l x ws rest last j e (inr g) = from_run l ws last j (tail_begun x ws rest last e g)
 
       next_read : (l : Listed TypeTree) (x : Spot) (ws rest : List Word) (t : Read TypeTree) (last : List Word) → TypesAt l ws → ws ≡ mark separator x ∷ rest → TypeOk q b rest t last → TypesAt (add l t.tree t.depth) last
@@ -152,11 +152,11 @@ module _ (separator close : TokenKind) where
       ok = ok_add q b empty t.tree t.depth (ok_empty q b) r.fits r.sized r.shallow;
     }
 
-    no_types : (ts : List Word) → Begun (Form AllTypes (GoodTypes q b)) ts ts
+    no_types : (ts : List Word) → Begun (FormOf AllTypes (GoodTypes q b)) ts ts
     no_types ts = begun_none ts (short_as (short_mark close) (λ us rs m. record { all = []; spells = m; ok = (tt, omega arith) }))
 
-    one_type : (ts rest : List Word) → Stops (TypeFits q b) ts rest → Begun (Form AllTypes (GoodTypes q b)) ts rest
-    one_type ts rest (inl e) = subst (λ (v : List Word). Begun (Form AllTypes (GoodTypes q b)) ts v) e (no_types ts)
+    one_type : (ts rest : List Word) → Stops (TypeFits q b) ts rest → Begun (FormOf AllTypes (GoodTypes q b)) ts rest
+    one_type ts rest (inl e) = subst (λ (v : List Word). Begun (FormOf AllTypes (GoodTypes q b)) ts v) e (no_types ts)
     one_type ts rest (inr g) = begun_as (before g (short_mark close)) (λ us rs h. let t = h.1 in record { all = t.tree ∷ []; spells = (h.0, t.spells, inl h.2); ok = good_one t.tree q b t.fits t.shallow })
 
     pub all_types_holds : (ts : List Word) → Holds (TypesRead q b AllTypes ts) (TypesFault q b AllTypes ts) (parts separator close any_end (one_more type) empty ts)

@@ -14,7 +14,7 @@ use Rattle.ui_syntax.specs.declared.site.Style.TheVariants as style
 use Rattle.ui_syntax.specs.Types.{Params, no_params, group, as_types, is_empty, is_named, params_ending, all_params}
 use Rattle.ui_syntax.proofs.ByBudget.{Begun}
 use Rattle.ui_syntax.proofs.Begun.{Short, short_as, short_mark, short_then, x_name, begun_as, begun_none, before, behind, Is, frame_word}
-use Rattle.ui_syntax.proofs.Runs.{Form, lead_begun, run_end, run_begun}
+use Rattle.ui_syntax.proofs.Runs.{FormOf, lead_begun, run_end, run_begun}
 use Rattle.ui_syntax.proofs.SoundTypesLists.{TypeFits}
 use Rattle.ui_syntax.proofs.SoundTypesNamed.{short_fits}
 use Rattle.ui_syntax.proofs.SoundTypesGroups.{or_left, or_right, bare_append, named_append, AreFit, fit_none, fit_one, fit_append, fit_types_of, groups_depth_append, depth_of_types}
@@ -28,7 +28,7 @@ module _ (room : ℕ) where
     pub fit : AreFit room gs
 
   abbrev pub ParamsFault : List Word → List Word → Type 0
-  ParamsFault ts rest = Begun (Form Whole GoodGroups) ts rest
+  ParamsFault ts rest = Begun (FormOf Whole GoodGroups) ts rest
 
   good_bare : (gs : List (Group TypeTree)) → all_bare (groups kept gs) ≡ true → AreFit room gs → GoodGroups gs
   good_bare gs e f = record { styled = or_right _ _ e; fit = f }
@@ -103,7 +103,7 @@ module _ (room : ℕ) where
   filled_names [] p ps t us h = h
   filled_names (n ∷ ns) p ps t us h = h
 
-  from_labelled : (ps : Params) (ts ws rest : List Word) → Before room ps ts ws → is_bare ps.style ≡ false → Begun (Form Labels_of LabelledOk) ws rest → ParamsFault ts rest
+  from_labelled : (ps : Params) (ts ws rest : List Word) → Before room ps ts ws → is_bare ps.style ≡ false → Begun (FormOf Labels_of LabelledOk) ws rest → ParamsFault ts rest
   from_labelled ps ts ws rest j e g =
       lead_begun {S = Labels_of} {Ok1 = LabelledOk} (λ x. ps.groups ++ (group (ps.waiting ++ (x.name ∷ x.names)) x.of ∷ x.others)) ts ws rest (j.named e)
       (λ x h. good_named _ (named_append ps.groups (group (ps.waiting ++ (x.name ∷ x.names)) x.of ∷ x.others) (named_items room ps e j.facts) (filled_names ps.waiting x.name x.names x.of x.others h.1)) (fit_append room ps.groups (group (ps.waiting ++ (x.name ∷ x.names)) x.of ∷ x.others) (facts_fit ps j.facts) (refit (ps.waiting ++ (x.name ∷ x.names)) x.of x.others h.0)))
@@ -114,7 +114,7 @@ module _ (room : ℕ) where
   named_fault ps p ts m rest j e g = from_labelled ps ts (ident p ∷ m) rest j e
       (begun_as (behind (frame_word (ident p) m) (before g (short_mark RParen))) (λ us rs h. let t = h.2.1 in record { all = record { name = p; names = []; of = t.tree; others = [] }; spells = (h.0, h.2.0, (h.0, h.1, refl), t.spells, inl h.2.2); ok = (fit_one room [] t.tree t.fits t.shallow, refl) }))
 
-  short_labelled : 1 ≤ room → Short (Form Labels_of LabelledOk)
+  short_labelled : 1 ≤ room → Short (FormOf Labels_of LabelledOk)
   short_labelled le = short_as (short_then {R = Is (ident x_name)} (record { words = ident x_name ∷ []; spells = λ k. refl }) (short_then (short_fits room le) (short_mark RParen)))
       (λ us rs h. let t = h.2.1 in record { all = record { name = x_name; names = []; of = t.tree; others = [] }; spells = (h.0, h.2.0, (h.0, h.1, refl), t.spells, inl h.2.2); ok = (fit_one room [] t.tree t.fits t.shallow, refl) })
 

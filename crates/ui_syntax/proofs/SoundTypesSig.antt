@@ -19,7 +19,7 @@ use Rattle.ui_syntax.specs.Types.{Nested, Listed, Params, a_lower_type, param, p
 use Rattle.ui_syntax.proofs.ByBudget.{Begun, Stops, TypeForm, IsMaybeRead, IsSoundAt}
 use Rattle.ui_syntax.proofs.Begun.{Short, no_spot, begun_as, begun_stops, behind, before, frame_word, mark_at}
 use Rattle.ui_syntax.proofs.Places.{fits_result}
-use Rattle.ui_syntax.proofs.Runs.{Form}
+use Rattle.ui_syntax.proofs.Runs.{FormOf}
 use Rattle.ui_syntax.proofs.SoundTypesParams.{Whole, ParamsRead}
 use Rattle.ui_syntax.proofs.SoundTypesParamEnds.{GoodGroups}
 use Rattle.ui_syntax.proofs.SoundTypesParam.{params_holds}
@@ -75,7 +75,7 @@ module _ (room : ℕ) where
   -- ---- signatures, behind the parenthesis
 
   abbrev pub SigForm : Spelling
-  SigForm = Then (Form Whole (GoodGroups room)) ResultForm
+  SigForm = Then (FormOf Whole (GoodGroups room)) ResultForm
 
   pub record SigRead (ts : List Word) (gs : List (Group TypeTree)) (r : MaybeType) (k : ℕ) (rest : List Word) : Type 0 where
     pub middle : List Word
@@ -88,7 +88,7 @@ module _ (room : ℕ) where
     pub shallow : k ≤ suc room
     pub no_results : result_is_open r ≡ true → first (marked LParen) rest ≡ None
 
-  pub frame_params : (ts : List Word) (l : Listed (Group TypeTree)) (m : List Word) → ParamsRead room ts l m → Framed (Form Whole (GoodGroups room)) ts m
+  pub frame_params : (ts : List Word) (l : Listed (Group TypeTree)) (m : List Word) → ParamsRead room ts l m → Framed (FormOf Whole (GoodGroups room)) ts m
   frame_params ts l m h = framed_as (frame_groups Comma RParen (groups kept l.items) ts m h.spells)
       (λ us ws s. record { all = l.items; spells = s; ok = record { styled = h.styled; fit = record { fits = h.fits; shallow = omega (arith, h.sized, h.shallow) } } })
 

@@ -20,7 +20,7 @@ use Rattle.ui_syntax.specs.Cover.{Read}
 use Rattle.ui_syntax.specs.Types.{Nested, Listed, add, empty, group, any_end, a_type, add_field, one_name_more, field}
 use Rattle.ui_syntax.proofs.ByBudget.{Begun, Stops}
 use Rattle.ui_syntax.proofs.Begun.{short_as, short_mark, short_name, Is, begun_as, begun_none, begun_stops, behind, behind_none, before}
-use Rattle.ui_syntax.proofs.Runs.{Form, Lead, lead_next, lead_same, lead_begun, Run, run_first, run_next, run_end, run_begun}
+use Rattle.ui_syntax.proofs.Runs.{FormOf, Lead, lead_next, lead_same, lead_begun, Run, run_first, run_next, run_end, run_begun}
 use Rattle.ui_syntax.proofs.SoundTypesLists.{TypeFits, TypeOk}
 use Rattle.ui_syntax.proofs.SoundTypesNamed.{short_fits}
 use Rattle.ui_syntax.proofs.SoundTypesGroups.{GroupsTail, AllGroups, groups_of, groups_tail_of, fits_groups_append, groups_depth_append, named_append, AreFit, fit_none, fit_one, fit_append}
@@ -94,7 +94,7 @@ module _ (room : ℕ) where
       fit : FieldsFit l
 
     abbrev pub FieldsFault : List Word → Type 0
-    FieldsFault rest = Begun (Form Fields FieldsOk) ts rest
+    FieldsFault rest = Begun (FormOf Fields FieldsOk) ts rest
 
     at_first : FieldBefore empty ts
     at_first = record {
@@ -118,7 +118,7 @@ module _ (room : ℕ) where
         (λ us h. (named_append l.items us j.fit.named h.0, fit_append room l.items us (all_fit l j.fit) h.1))
         (begun_as g (λ us rs h. record { all = []; spells = h; ok = (refl, fit_none room) }))
 
-    field_fault : (l : Listed (Group TypeTree)) (ws rest : List Word) → FieldBefore l ws → 1 ≤ room → Begun (Then (Form Names (λ ns. Unit {0})) (TypeFits plain_type room)) ws rest → FieldsFault rest
+    field_fault : (l : Listed (Group TypeTree)) (ws rest : List Word) → FieldBefore l ws → 1 ≤ room → Begun (Then (FormOf Names (λ ns. Unit {0})) (TypeFits plain_type room)) ws rest → FieldsFault rest
     field_fault l ws rest j le g = lead_begun {S = Field_of} {Ok1 = λ x. FieldsOk (group x.names x.of ∷ x.others)} (λ x. l.items ++ (group x.names x.of ∷ x.others)) ts ws rest j.lead
         (λ x h. (named_append l.items (group x.names x.of ∷ x.others) j.fit.named h.0, fit_append room l.items (group x.names x.of ∷ x.others) (all_fit l j.fit) h.1))
         (begun_as (before g (short_mark RBrace)) (λ us rs h. let ns = h.1.1 in let t = h.1.2 in record {
@@ -127,10 +127,10 @@ module _ (room : ℕ) where
           ok = (named_by ns.all us h.1.0 t.tree [] ns.spells refl, fit_one room ns.all t.tree t.fits t.shallow);
         }))
 
-    names_frame : (ns : List Placed) (ws u : List Word) → NamesRun ns ws u → Framed (Form Names (λ ns. Unit {0})) ws u
+    names_frame : (ns : List Placed) (ws u : List Word) → NamesRun ns ws u → Framed (FormOf Names (λ ns. Unit {0})) ws u
     names_frame ns ws u run = record { front = run.front; parts = run.parts; again = λ k. record { all = ns ++ []; spells = run.again [] k k refl; ok = tt } }
 
-    names_begun : (ns : List Placed) (x : Spot) (ws a rest : List Word) → NamesRun ns ws a → a ≡ mark Comma x ∷ rest → Begun (Form Names (λ ns. Unit {0})) ws rest
+    names_begun : (ns : List Placed) (x : Spot) (ws a rest : List Word) → NamesRun ns ws a → a ≡ mark Comma x ∷ rest → Begun (FormOf Names (λ ns. Unit {0})) ws rest
     names_begun ns x ws a rest run e = lead_begun {S = NamesTail} {Ok1 = λ us. Unit {0}} (λ us. ns ++ us) ws a rest run (λ us h. h)
         (begun_as (behind_none (frame_mark Comma a rest (record { spot = x; is = e })) short_name) (λ us rs h. record { all = h.2.word ∷ []; spells = (h.0, rs, h.1, h.2.is, refl); ok = tt }))
 

@@ -23,7 +23,7 @@ use Rattle.ui_syntax.proofs.ByBudget.{Begun, Stops, TypeForm, IsTypeRead, IsMayb
 use Rattle.ui_syntax.proofs.Begun.{Short, short_as, short_mark, short_then, short_type, begun_as, stops_as, begun_stops, behind, behind_word, then_holds, mark_at, name_at}
 use Rattle.ui_syntax.proofs.Places.{fits_term}
 use Rattle.ui_syntax.proofs.FirstWords.{begins_spelled_type}
-use Rattle.ui_syntax.proofs.Runs.{Form, Run, run_first, run_next, run_end, run_begun}
+use Rattle.ui_syntax.proofs.Runs.{FormOf, Run, run_first, run_next, run_end, run_begun}
 use Rattle.ui_syntax.proofs.SoundTypesLists.{TypeFits, TypeOk, GoodTypes, good_one, good_append, TypesOk, ok_good, ok_only, ok_add}
 use Rattle.ui_syntax.proofs.SoundTypesNamed.{short_fits, named_type_holds}
 use Rattle.ui_syntax.proofs.SoundTypesRead.{type_ok, or_refuse_holds, frame_ok, opened_holds}
@@ -51,7 +51,7 @@ module _ (b : ℕ) where
   short_term le = short_as (short_type b le) term_form
 
   -- any terms are a union
-  union_form : (us ws : List Word) → Form Terms (GoodTypes term b) us ws → TypeForm at.Element b us ws
+  union_form : (us ws : List Word) → FormOf Terms (GoodTypes term b) us ws → TypeForm at.Element b us ws
   union_form us ws h = by_terms h.all h.spells h.ok
     where
       by_terms : (all : List TypeTree) → Terms all us ws → GoodTypes term b all → TypeForm at.Element b us ws
@@ -78,14 +78,14 @@ module _ (b : ℕ) where
       ok = ok_add term b l t.tree t.depth j.ok r.fits r.sized r.shallow;
     }
 
-    next_stops : (l : Listed TypeTree) (x : Spot) (ws rest last : List Word) → 1 ≤ b → TermsAt l ws → ws ≡ mark Or x ∷ rest → Stops (TypeFits term b) rest last → Begun (Form Terms (GoodTypes term b)) ts last
+    next_stops : (l : Listed TypeTree) (x : Spot) (ws rest last : List Word) → 1 ≤ b → TermsAt l ws → ws ≡ mark Or x ∷ rest → Stops (TypeFits term b) rest last → Begun (FormOf Terms (GoodTypes term b)) ts last
     next_stops l x ws rest last le j e st = run_begun TermsTail Terms {Ok1 = GoodTypes term b} {Ok2 = GoodTypes term b} l.items ts ws last j.run (λ us h. good_append l.items us term b (ok_good term b l j.ok) h)
         (begun_as (behind (frame_mark Or ws rest (record { spot = x; is = e })) (begun_stops (short_term le) st)) (λ us rs h. let t = h.2 in record { all = t.tree ∷ []; spells = (h.0, rs, h.1, t.spells, refl); ok = good_one t.tree term b t.fits t.shallow }))
 
     pub terms_hold : (reader : Reader (Read TypeTree)) → Steady reader → ((us : List Word) → Holds (TypeOk term b us) (Stops (TypeFits term b) us) (reader us)) → 1 ≤ b → (t : Read TypeTree) (ws : List Word) → TypeOk term b ts t ws
-        → Holds TermsAt (Begun (Form Terms (GoodTypes term b)) ts) (chain Or (one_more reader) (only t.tree t.depth) ws)
+        → Holds TermsAt (Begun (FormOf Terms (GoodTypes term b)) ts) (chain Or (one_more reader) (only t.tree t.depth) ws)
     terms_hold reader reader_is sound le t ws r = mono
-        (chain_holds Or (one_more reader) (λ l. steady_bind reader_is (λ t. steady_pure (add l t.tree t.depth))) TermsAt (Begun (Form Terms (GoodTypes term b)) ts)
+        (chain_holds Or (one_more reader) (λ l. steady_bind reader_is (λ t. steady_pure (add l t.tree t.depth))) TermsAt (Begun (FormOf Terms (GoodTypes term b)) ts)
         (λ l x u rest j e. bind (sound rest) (λ u last q. good (next_term l x _ rest u last j e q)) (λ last st. next_stops l x u rest last le j e st))
         (only t.tree t.depth) ws (first_term t ws r))
         (λ us rest h. h.0) (λ rest g. g)

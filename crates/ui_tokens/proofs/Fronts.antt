@@ -15,7 +15,7 @@ use Rattle.ui_scan.specs.Letters.{begins_name, name_len}
 use Rattle.ui_scan.specs.Literal.{behind, string, string_piece, rune, rune_piece, rune_code, raw_string, raw_end, body}
 use Rattle.ui_scan.specs.Number.{radix, number, whole_number, within, begins_fraction, is_numeral}
 use Rattle.ui_scan.specs.Piece.{piece, lexeme, word, word_or_operator, line_comment, general_comment, comment_len, comment_piece, is_line_end, is_blank, is_decimal}
-use Rattle.ui_scan.specs.Table.{Entry, keywords, operators, spelled, operator, first_operator}
+use Rattle.ui_scan.specs.Table.{Row, keywords, operators, spelled, operator, first_operator}
 use Rattle.ui_scan.specs.Tokens.{begins_blank}
 use Rattle.ui_scan.specs.Value.{inside}
 use Rattle.std.specs.Str.{bytes_eq}
@@ -213,10 +213,10 @@ told_as : (p : Piece) (k kind : ScanKind) (n at : ℕ) → p ≡ a.Fault k n →
 told_as p k kind n at is same place = is ∙ ap (λ x. a.Fault x n) (sym same) ∙ ap (a.Fault kind) (sym place)
 
 -- a rune that is read is one character or escape
-abbrev no_rune_kind : Entry → Bool
+abbrev no_rune_kind : Row → Bool
 no_rune_kind entry = not (is_rune_kind entry.1)
 
-spelled_no_rune : (table : List Entry) (text : List ℕ) → list_all no_rune_kind table ≡ true → spelled table text ≡ Some kind.Rune → ⊥
+spelled_no_rune : (table : List Row) (text : List ℕ) → list_all no_rune_kind table ≡ true → spelled table text ≡ Some kind.Rune → ⊥
 spelled_no_rune [] text each is = cc
 spelled_no_rune (entry ∷ table) text each is =
     let parts = and_parts (no_rune_kind entry) (list_all no_rune_kind table) each in
@@ -328,7 +328,7 @@ OnlyStray (a.Token k len) = Unit {0}
 OnlyStray (a.Fault k at) = (k ≡ fault.BadByte) × (at ≡ 0)
 OnlyStray (a.Open k) = ⊥
 
-first_only : (table : List Entry) (bytes : List ℕ) → OnlyStray (first_operator table bytes)
+first_only : (table : List Row) (bytes : List ℕ) → OnlyStray (first_operator table bytes)
 first_only [] bytes = (refl, refl)
 first_only (entry ∷ table) bytes = tested OnlyStray (starts_with nat_eq bytes entry.0) _ _ (λ _. tt) (λ _. first_only table bytes)
 

@@ -1,4 +1,4 @@
-use Rattle.std.proofs.Common.{◌-◌, rules, refl}
+use Rattle.std.proofs.Common.{rules, refl}
 use Rattle.ui_parse.proofs.ListLaws.{called_reads, more_parts_read}
 use Rattle.ui_scan.specs.declared.kind.TokenKind.TheVariants.{Comma, RBracket}
 use Rattle.ui_stmts.specs.Decls.{type_param, type_params_ending}
@@ -7,5 +7,5 @@ use Rattle.ui_pdecl.proofs.type_params.more_params.Goals as goal
 
 pub returns : goal.returns
 returns c =
-    let step = type_param (c.args.budget - 1) in
+    let step = type_param c.args.room in
     more_parts_read Comma RBracket _ type_params_ending see_type_params _ step (λ s. refl) (λ s. refl) (called_reads see_type_params _ step (λ old new s r k. search rules)) c.args.params c.args.words.now c.more_parts.result c.more_parts.new.cursor c.more_parts.ensures

@@ -1,4 +1,4 @@
-use Rattle.std.proofs.Common.{◌-◌, Result, Ok, Err, refl, sym, ap, ◌∙◌}
+use Rattle.std.proofs.Common.{Result, Ok, Err, refl, sym, ap, ◌∙◌}
 use Rattle.ui_tree.specs.declared.expr.ExprTree.{ExprTree}
 use Rattle.ui_tree.specs.View.{view}
 use Rattle.ui_syntax.specs.Cover.{only_type, as_type}
@@ -16,7 +16,7 @@ use Rattle.ui_pread.proofs.exprs.Exprs.behind_index.Goals as goal
 
 pub returns-in-Err : goal.returns-in-Err
 returns-in-Err g c =
-    let room = c.args.self.now.types.budget - 1 in
+    let room = c.args.self.now.types.room in
     let x = see c.args.at in
     let some = sym (c.is_type_alone.ensures ∙ ap (λ (e : ExprTree). is_some (only_type (view e))) c.get.ensures) ∙ c.if-not-is_type_alone.false in
     covered_fault see (behind_index room (readers room) (see c.args.of) x (only_type x.tree) c.args.words.now) c.args.words.now x (as_type x.tree) c.args.words.now c.args.words.now c.in-Err.fault
@@ -24,7 +24,7 @@ returns-in-Err g c =
 
 pub returns-in-Err-more_args : goal.returns-in-Err-more_args
 returns-in-Err-more_args g c =
-    let room = c.args.self.now.types.budget - 1 in
+    let room = c.args.self.now.types.room in
     let inner = readers room in
     let x = see c.args.at in
     let first = c.in-Ok.first in
@@ -35,7 +35,7 @@ returns-in-Err-more_args g c =
 
 pub returns-in-Ok-instance_of : goal.returns-in-Ok-instance_of
 returns-in-Ok-instance_of g c =
-    let room = c.args.self.now.types.budget - 1 in
+    let room = c.args.self.now.types.room in
     let inner = readers room in
     let x = see c.args.at in
     let first = c.in-Ok.first in

@@ -1,4 +1,4 @@
-use Rattle.std.proofs.Common.{◌-◌, Result, Ok, Err, refl, sym, ap, ◌∙◌}
+use Rattle.std.proofs.Common.{Result, Ok, Err, refl, sym, ap, ◌∙◌}
 use Rattle.ui_tree.specs.declared.expr.ExprTree.{ExprTree}
 use Rattle.ui_tree.specs.View.{view}
 use Rattle.ui_syntax.specs.Cover.{as_type}
@@ -16,13 +16,13 @@ use Rattle.ui_pread.proofs.exprs.Exprs.instance_behind.Goals as goal
 
 pub returns-in-Err : goal.returns-in-Err
 returns-in-Err g c =
-    let room = c.args.self.now.types.budget - 1 in
+    let room = c.args.self.now.types.room in
     covered_fault see (instance_behind room (readers room) (see c.args.of) c.args.at.depth (as_type (see c.args.at).tree) c.args.words.now) c.expect.new.self (see c.args.at) (as_type (see c.args.at).tree) c.expect.new.self c.expect.new.self c.in-Err.fault
     (sym (c.is_type.ensures ∙ ap (λ (e : ExprTree). is_some (as_type (view e))) c.get.ensures) ∙ c.if-not-is_type.false) c.in-Err.ensures
 
 pub returns-in-Err-args_behind : goal.returns-in-Err-args_behind
 returns-in-Err-args_behind g c =
-    let room = c.args.self.now.types.budget - 1 in
+    let room = c.args.self.now.types.room in
     let inner = readers room in
     let f = see c.args.of in
     let first = c.in-Ok.first in
@@ -32,7 +32,7 @@ returns-in-Err-args_behind g c =
 
 pub returns-in-Ok-instance_of : goal.returns-in-Ok-instance_of
 returns-in-Ok-instance_of g c =
-    let room = c.args.self.now.types.budget - 1 in
+    let room = c.args.self.now.types.room in
     let inner = readers room in
     let f = see c.args.of in
     let first = c.in-Ok.first in

@@ -1,4 +1,3 @@
-use Rattle.std.proofs.Common.{◌-◌}
 use Rattle.ui_parse.specs.Reader.{and_then}
 use Rattle.ui_parse.proofs.ListLaws.{reads_fault}
 use Rattle.ui_syntax.specs.Cover.{as_type}
@@ -11,5 +10,5 @@ use Rattle.ui_pread.proofs.exprs.Exprs.named_literal.Goals as goal
 
 pub returns-in-Err : goal.returns-in-Err
 returns-in-Err g c =
-    let room = c.args.self.now.types.budget - 1 in
+    let room = c.args.self.now.types.room in
     reads_fault see_type (see_turn see) (covered (see c.args.of) (as_type (see c.args.of).tree) c.args.words.now) (λ t us. and_then (literal_of room (readers room) t us) more) c.in-Err.fault c.args.words.now c.in-Err.ensures

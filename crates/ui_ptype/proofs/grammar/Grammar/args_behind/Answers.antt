@@ -1,4 +1,4 @@
-use Rattle.std.proofs.Common.{◌-◌, rules, refl}
+use Rattle.std.proofs.Common.{rules, refl}
 use Rattle.ui_parse.proofs.ListLaws.{called_reads, parts_read}
 use Rattle.ui_syntax.specs.Read.{readers}
 use Rattle.ui_scan.specs.declared.kind.TokenKind.TheVariants.{Comma, RBracket}
@@ -9,5 +9,5 @@ use Rattle.ui_ptype.proofs.grammar.Grammar.args_behind.Goals as goal
 
 pub returns : goal.returns
 returns g c =
-    let step = one_more (type_in (c.args.self.now.budget - 1) (readers (c.args.self.now.budget - 1)) c.args.lower) in
+    let step = one_more (type_in c.args.self.now.room (readers c.args.self.now.room) c.args.lower) in
     rw (← c.in-Ok.ensures) (parts_read Comma RBracket _ any_end see_types _ step (λ s. refl) (λ s. refl) (called_reads see_types _ step (λ old new s r k. search rules)) c.in-Ok.all c.args.words.now c.parts.result c.parts.new.cursor c.parts.ensures)

@@ -1,4 +1,4 @@
-use Rattle.std.proofs.Common.{◌-◌, None, Ok, Err, refl, sym, ap, ◌∙◌}
+use Rattle.std.proofs.Common.{None, Ok, Err, refl, sym, ap, ◌∙◌}
 use Rattle.ui_parse.specs.Reader.{pure}
 use Rattle.ui_parse.proofs.ListLaws.{reads_then, reads_fault}
 use Rattle.ui_syntax.specs.Read.{readers}
@@ -9,7 +9,7 @@ use Rattle.ui_ptype.proofs.grammar.Grammar.behind_cover.Goals as goal
 
 pub returns-in-Err-args_behind : goal.returns-in-Err-args_behind
 returns-in-Err-args_behind g c =
-    let room = c.args.self.now.budget - 1 in
+    let room = c.args.self.now.room in
     let first = c.in-Ok.first in
     behind_comma room (readers room) (see_params c.args.params) c.args.name c.args.spot (see c.args.cover) c.args.words.now c.take.new.self c.take.new.self (Err c.in-Err-args_behind.fault) c.args_behind.new.words first c.take.result
     c.take.ensures.found (sym c.is_some.ensures ∙ c.if-is_some.true) c.take.ensures.left c.in-Ok.ensures
@@ -17,7 +17,7 @@ returns-in-Err-args_behind g c =
 
 pub returns-in-Ok-add_type : goal.returns-in-Ok-add_type
 returns-in-Ok-add_type g c =
-    let room = c.args.self.now.budget - 1 in
+    let room = c.args.self.now.room in
     let first = c.in-Ok.first in
     behind_comma room (readers room) (see_params c.args.params) c.args.name c.args.spot (see c.args.cover) c.args.words.now c.take.new.self c.take.new.self (Ok c.in-Ok-add_type.params) c.args_behind.new.words first c.take.result
     c.take.ensures.found (sym c.is_some.ensures ∙ c.if-is_some.true) c.take.ensures.left c.in-Ok.ensures

@@ -1,4 +1,4 @@
-use Rattle.std.proofs.Common.{◌≡◌, ℕ, ◌-◌, suc, Ok, Err, refl, ap, ◌∙◌}
+use Rattle.std.proofs.Common.{◌≡◌, ℕ, suc, Ok, Err, refl, ap, ◌∙◌}
 use Rattle.ui_base.specs.declared.value.Spot.{Spot}
 use Rattle.ui_scan.specs.declared.kind.TokenKind.TheVariants.{Semi, LBrace, RBrace}
 use Rattle.ui_tree.specs.Tree.{TypeTree, interface}
@@ -27,7 +27,7 @@ is_made x t s d l seen viewed deep = seen ∙ ap (λ (t : TypeTree). of_type t s
 pub returns-in-Err : goal.returns-in-Err
 unfolding interface_type
 returns-in-Err g c =
-    let room = c.args.self.now.budget - 1 in
+    let room = c.args.self.now.room in
     let list = elements room (readers room) in
     reads_then (λ (s : Spot). s) see_type (expect LBrace c.args.words.now) (λ _ u. and_then (list u) (made c.args.spot)) c.in_ok-expect.field-0 c.expect.new.self (Err c.in-Err.fault) c.element_list.new.words c.in_ok-expect.ensures
     (reads_fault see_types see_type (list c.expect.new.self) (made c.args.spot) c.in-Err.fault c.element_list.new.words c.in-Err.ensures)
@@ -35,7 +35,7 @@ returns-in-Err g c =
 pub returns-in-Ok-type_over : goal.returns-in-Ok-type_over
 unfolding interface_type
 returns-in-Ok-type_over g c =
-    let room = c.args.self.now.budget - 1 in
+    let room = c.args.self.now.room in
     let list = elements room (readers room) in
     reads_then (λ (s : Spot). s) see_type (expect LBrace c.args.words.now) (λ _ u. and_then (list u) (made c.args.spot)) c.in_ok-expect.field-0 c.expect.new.self (Ok c.in-Ok-type_over.of) c.element_list.new.words c.in_ok-expect.ensures
     (reads_then see_types see_type (list c.expect.new.self) (made c.args.spot) c.in-Ok.elems c.element_list.new.words (Ok c.in-Ok-type_over.of) c.element_list.new.words c.in-Ok.ensures (is_made c.in-Ok-type_over.of c.interface.result c.args.spot c.in-Ok.elems.depth c.in-Ok.elems c.in-Ok-type_over.ensures c.interface.ensures refl, refl))

@@ -1,4 +1,4 @@
-use Rattle.std.proofs.Common.{◌-◌, suc, Err, sym, ◌∙◌}
+use Rattle.std.proofs.Common.{suc, Err, sym, ◌∙◌}
 use Rattle.ui_scan.specs.declared.kind.TokenKind.TheVariants.{LParen}
 use Rattle.ui_base.specs.declared.value.Spot.{Spot}
 use Rattle.ui_parse.specs.Reader.{and_then, marked}
@@ -11,7 +11,7 @@ use Rattle.ui_ptype.proofs.grammar.Grammar.named_element.Goals as goal
 
 pub returns-in-Err-named_type : goal.returns-in-Err-named_type
 returns-in-Err-named_type g c =
-    let room = c.args.self.now.budget - 1 in
+    let room = c.args.self.now.room in
     let inner = readers room in
     let type = named_type (suc room) (a_type room inner) c.args.name in
     let e = c.in-Err-named_type.fault in
@@ -21,7 +21,7 @@ returns-in-Err-named_type g c =
 
 pub returns : goal.returns
 returns g c =
-    let room = c.args.self.now.budget - 1 in
+    let room = c.args.self.now.room in
     let inner = readers room in
     let type = named_type (suc room) (a_type room inner) c.args.name in
     reads_if_missed see_maybe c.union_from.result c.union_from.new.words (marked LParen) (λ (_ : Spot). opened room inner (signature room inner (method_of room inner c.args.name))) (λ u. and_then (type u) (union_from room inner)) c.take.result c.args.words.now c.take.new.self

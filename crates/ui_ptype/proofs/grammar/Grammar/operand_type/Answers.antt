@@ -1,4 +1,4 @@
-use Rattle.std.proofs.Common.{◌-◌, None}
+use Rattle.std.proofs.Common.{None}
 use Rattle.ui_scan.specs.declared.kind.TokenKind.TheVariants.{Func, Struct, Interface}
 use Rattle.ui_parse.specs.Reader.{pure, take_by, marked}
 use Rattle.ui_syntax.specs.Read.{readers}
@@ -10,7 +10,7 @@ use Rattle.ui_ptype.proofs.grammar.Grammar.operand_type.Goals as goal
 pub returns-in-None : goal.returns-in-None
 unfolding operand_type
 returns-in-None g c =
-    let room = c.args.self.now.budget - 1 in
+    let room = c.args.self.now.room in
     let inner = readers room in
     let deep = deep_type room inner c.args.site (pure None) in
     let third = take_by (marked Interface) (λ s. opened room inner (interface_type room inner s)) deep in

@@ -1,4 +1,4 @@
-use Rattle.std.proofs.Common.{◌-◌, suc, Some, Ok, Err, refl}
+use Rattle.std.proofs.Common.{suc, Some, Ok, Err, refl}
 use Rattle.ui_tree.specs.declared.part.Placed.{Placed}
 use Rattle.ui_tree.specs.Tree.{TypeTree}
 use Rattle.ui_parse.specs.Reader.{named as a_name}
@@ -13,7 +13,7 @@ use Rattle.ui_ptype.proofs.grammar.Grammar.plain_type.Goals as goal
 pub returns-in-Err-named_type : goal.returns-in-Err-named_type
 unfolding plain_type
 returns-in-Err-named_type g c =
-    let room = c.args.self.now.budget - 1 in
+    let room = c.args.self.now.room in
     let inner = readers room in
     let e = c.in-Err-named_type.fault in
     reads_took see_maybe (Err e) c.named_type.new.words a_name (λ (n : Placed). opened room inner (named_type (suc room) (a_type room inner) n)) (other_type room inner) c.in-Ok-Some.field-0 c.in-Ok-Some.name c.args.words.now c.take_name.new.self
@@ -23,7 +23,7 @@ returns-in-Err-named_type g c =
 pub returns-in-Ok : goal.returns-in-Ok
 unfolding plain_type
 returns-in-Ok g c =
-    let room = c.args.self.now.budget - 1 in
+    let room = c.args.self.now.room in
     let inner = readers room in
     let t = c.in-Ok.of in
     reads_took see_maybe (Ok (Some t)) c.named_type.new.words a_name (λ (n : Placed). opened room inner (named_type (suc room) (a_type room inner) n)) (other_type room inner) c.in-Ok-Some.field-0 c.in-Ok-Some.name c.args.words.now c.take_name.new.self
