@@ -1,11 +1,11 @@
 -- A package is compiled: the outcome is that by the sources alone, and what it stands for is written.
-use Rattle.std.proofs.Common.{◌≡◌, ◌∙◌, ap, sym, subst, refl, length, ◌≤◌, Bool, true, false, List, [], ◌∷◌, map, Option, Some, None, IfSome, Result, Ok, Err}
+use Rattle.std.proofs.Common.{◌≡◌, ◌∙◌, ap, sym, subst, refl, length, ◌≤◌, Bool, true, false, List, [], ◌∷◌, map, Option, Some, IfSome, Result, Ok, Err}
 use Rattle.std.specs.Prelude.{◌||◌}
 use Rattle.std.specs.List.{AllByRecursion, list_any}
 use Rattle.std.specs.Cmp.{eq_by_cmp_equiv}
 use Rattle.std.specs.Cmp.Lexicographic.{nat_list_cmp_total}
 use Rattle.std.specs.FinMap.{entries, insert, contains_key, contains_key-keys}
-use Rattle.ui_store.specs.Files.{Files, put}
+use Rattle.ui_store.specs.Files.{Files}
 use Rattle.ui_frame.specs.Laws.{IsBytes}
 use Rattle.ui_exports.specs.Linked.{Linked}
 use Rattle.ui_consts.specs.Record.{Holds}
@@ -21,7 +21,7 @@ use Rattle.ui_build.specs.Built.{IsReady, AreBuilt, Stands}
 use Rattle.ui_build.specs.declared.stop.Stop.{Stop}
 use Rattle.ui_build.proofs.Steps.{does_then, does_stop, ends_none, ends_mapped, stop_mapped, bind_ok}
 use Rattle.ui_build.proofs.Keeping.{same_name}
-use Rattle.ui_build.proofs.Written.{linked_unit, file_over, stands_put}
+use Rattle.ui_build.proofs.Written.{stands_put}
 use Rattle.ui_build.proofs.Sufficient.{Laws, AreThere, sufficient, found_imports, known_claims, marks_claims, claims_at, marked_there}
 
 -- ---- what is written

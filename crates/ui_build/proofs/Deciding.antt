@@ -12,18 +12,18 @@ use Rattle.ui_sources.specs.Sources.{Source, source_limit}
 use Rattle.ui_forms.specs.Form.{Form as SourceForm, imported}
 use Rattle.ui_forms.specs.Verdict.{verdict}
 use Rattle.ui_order.specs.Steps.{has}
-use Rattle.ui_order.specs.Found.{Graph, Found, IsFound, begun, found_count, least_unread, with_imports}
+use Rattle.ui_order.specs.Found.{Found, IsFound, begun, found_count, least_unread, with_imports}
 use Rattle.ui_order.specs.Laws.{ReadsOneMore}
 use Rattle.ui_order.specs.Order.{Arrangement, cycle, paths, arranged}
-use Rattle.ui_build.specs.Plan.{Text, Refusal, NoFile, Faulty, Form, TooMany, Cycle, Entry, Plan, or_fault, done, refused, settled, next, ◌>>=◌, asking, writing}
-use Rattle.ui_build.specs.Package.{folder, unit_file, linked_file, file_in, find, form_or, imports_in, is_source, list_folder, listed_as, read_as, read_file, read_form, read_source, read_sources, some_source}
+use Rattle.ui_build.specs.Plan.{Text, Refusal, NoFile, Faulty, TooMany, Cycle, Entry, Plan, or_fault, done, settled, next, ◌>>=◌, asking}
+use Rattle.ui_build.specs.Package.{folder, linked_file, file_in, find, form_or, imports_in, is_source, list_folder, listed_as, read_as, read_file, read_form, read_source, read_sources, some_source}
 use Rattle.ui_build.specs.Build.{Packages, below_of, build, build_order, compile, compile_all, discover, discover_next, discover_one, export_or, judged, order_or, ordered, package_limit, reads, values, within_limit, write_files}
 use Rattle.ui_build.specs.Built.{SameSources}
 use Rattle.ui_build.specs.Laws.{IsOfSources, IsSourceName}
 use Rattle.ui_build.proofs.Steps.{bind_ok}
 use Rattle.ui_build.proofs.Hearing.{no_form_by}
 use Rattle.ui_build.proofs.Ordered.{keys_more, no_key}
-use Rattle.ui_build.proofs.Discovered.{IsKnown, IsOrderOf, Orders, known_begun, known_next, limited, order_of_build}
+use Rattle.ui_build.proofs.Discovered.{IsKnown, Orders, known_begun, known_next, limited, order_of_build}
 
 -- ---- one step and the next
 

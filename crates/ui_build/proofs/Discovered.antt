@@ -11,10 +11,9 @@ use Rattle.ui_store.specs.Files.{Files}
 use Rattle.ui_order.specs.Steps.{has, order_from, and_then, is_ready}
 use Rattle.ui_order.specs.Found.{Graph, Found, IsFound, begun, least_unread, with_imports, found_count, imports_of}
 use Rattle.ui_order.specs.Order as orders
-use Rattle.ui_order.specs.Order.{Arrangement, cycle, paths, arranged, IsOnCycle}
+use Rattle.ui_order.specs.Order.{Arrangement, cycle, paths, arranged}
 use Rattle.ui_order.specs.Laws.{BeginsFound, KeepsFound, ClosesAtEnd, TakesImportsFirst, TakesAll, ArrangesAcyclic}
 use Rattle.ui_build.specs.Plan.{Text, Refusal, TooMany, settled}
-use Rattle.ui_sources.specs.Sources.{Source}
 use Rattle.ui_build.specs.Package.{folder, imports_in}
 use Rattle.ui_build.specs.Package as packages
 use Rattle.ui_build.specs.Build.{package_limit, within_limit, discover, discover_next, discover_one, order_or, ordered, build_order}
@@ -43,22 +42,31 @@ some_found found = Ok found
 found_is : (a b : Found) → some_found a ≡ some_found b → a ≡ b
 found_is a b e = cc
 
-pub known_begun : (laws : Orders) (files : Files) (root : Text) → IsKnown files root (begun root)
+-- the root alone is found at the beginning
+pub begun_few : (root : Text) → found_count (begun root) ≤ package_limit
 unfolding begun
-known_begun laws files root = record {
-  is_found = laws.begins root;
-  few = (let a = len-insert nat_list_cmp_total (empty {X = Unit {0}}) root tt in let b = len-empty (slice_cmp nat_cmp) (Unit {0}) in let c = len-empty (slice_cmp nat_cmp) (List Text) in one_found a b c);
-  reads = λ p there. absurd (none (sym (ap is_some (get-empty (slice_cmp nat_cmp) p)) ∙ there));
-}
+begun_few root =
+    let a = len-insert nat_list_cmp_total (empty {X = Unit {0}}) root tt in
+    let b = len-empty (slice_cmp nat_cmp) (Unit {0}) in
+    let c = len-empty (slice_cmp nat_cmp) (List Text) in
+    one_found a b c
   where
-    none : false ≡ true → ⊥
-    none e = absurd cc
-
     one_found : len (insert (empty {X = Unit {0}} {R = slice_cmp nat_cmp}) root tt) ≡ cond (contains_key (empty {X = Unit {0}} {R = slice_cmp nat_cmp}) root) (len (empty {X = Unit {0}} {R = slice_cmp nat_cmp})) (len (empty {X = Unit {0}} {R = slice_cmp nat_cmp}) + 1) → len (empty {X = Unit {0}} {R = slice_cmp nat_cmp}) ≡ 0
         → len (empty {X = List Text} {R = slice_cmp nat_cmp}) ≡ 0 → len (insert (empty {X = Unit {0}} {R = slice_cmp nat_cmp}) root tt) + len (empty {X = List Text} {R = slice_cmp nat_cmp}) ≤ 1024
     one_found a b c =
         let d = a ∙ ap (λ o. cond o (len (empty {X = Unit {0}} {R = slice_cmp nat_cmp})) (len (empty {X = Unit {0}} {R = slice_cmp nat_cmp}) + 1)) (ap is_some (get-empty (slice_cmp nat_cmp) root)) in
         omega (arith, b, c, d)
+
+pub known_begun : (laws : Orders) (files : Files) (root : Text) → IsKnown files root (begun root)
+unfolding begun
+known_begun laws files root = record {
+  is_found = laws.begins root;
+  few = begun_few root;
+  reads = λ p there. absurd (none (sym (ap is_some (get-empty (slice_cmp nat_cmp) p)) ∙ there));
+}
+  where
+    none : false ≡ true → ⊥
+    none e = absurd cc
 
 -- one more path was read
 reads_more : (files : Files) (read : Graph) (path : Text) (imports : List Text) → imports ≡ imports_by files path → ((p : Text) → contains_key read p ≡ true → imports_of read p ≡ imports_by files p)

@@ -15,6 +15,6 @@ pub mod Discovered
 pub mod Finding
 pub mod Built
 pub mod Hearing
-pub mod Anything
+pub mod HearingFound
 pub mod Dumped
 pub mod Deciding

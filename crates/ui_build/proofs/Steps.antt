@@ -1,11 +1,11 @@
 -- How steps join: what the first did and what the next did is what both together are to do.
 use Rattle.std.proofs.lemmas.List.{take_all}
-use Rattle.std.proofs.Common.{◌≡◌, ℕ, length, take, arith, ◌∙◌, ap, sym, subst, refl, List, [], ◌∷◌, ◌++◌, ◌⊎◌, inl, inr, Option, Some, None, IfSome, Result, Ok, Err, append_assoc, append-nil}
+use Rattle.std.proofs.Common.{◌≡◌, length, take, arith, ◌∙◌, ap, sym, subst, refl, List, [], ◌∷◌, ◌++◌, ◌⊎◌, inl, inr, Option, Some, None, IfSome, Result, Ok, Err, append_assoc, append-nil}
 use Rattle.ui_store.specs.Told.{more, more_none, more_twice}
 use Rattle.ui_store.specs.Files.{Files, put}
 use Rattle.ui_store.specs.Calls.{Ask, Calls, Torn}
 use Rattle.ui_store.specs.declared.store.AskKind.TheVariants as ask
-use Rattle.ui_build.specs.Plan.{Text, Refusal, Entry, Put, Plan, done, refused, settled, next, ◌>>=◌, asking, writing}
+use Rattle.ui_build.specs.Plan.{Text, Refusal, Put, Plan, done, refused, settled, next, ◌>>=◌, asking, writing}
 use Rattle.ui_build.specs.Stops.{State, state, with_both, Puts, PutsFront, AsksFront, IsFileOf, Ends, Stops, DoesStop, Does, DoesSeen, Carries, Settles, SettlesStop, refusal_of}
 use Rattle.ui_build.specs.Heard.{IsNoRefusal}
 use Rattle.ui_build.specs.declared.stop.Refusal.{Refusal as Told}

@@ -1,6 +1,6 @@
 -- What a step heard of the store from its first call to its last, and how it ended by that, over every store that tells
 -- what its calls gave. This project's own.
-use Rattle.std.specs.Prelude.{◌≡◌, ◌⊎◌, List, [], ◌∷◌, ◌++◌, map, filter, Option, Some, None, Result, Ok, Err, IfErr, ⊤}
+use Rattle.std.specs.Prelude.{◌≡◌, ℕ, zero, suc, List, [], ◌∷◌, ◌++◌, map, filter, Option, Some, None, Result, Ok, Err, IfErr, ⊤}
 use Rattle.ui_store.specs.Told.{more}
 use Rattle.ui_store.specs.Calls.{Hearing, Hearings}
 use Rattle.ui_store.specs.Views.{StoreView}
@@ -11,8 +11,10 @@ use Rattle.ui_exports.specs.Export.{Export}
 use Rattle.ui_exports.specs.Linked.{Linked}
 use Rattle.ui_forms.specs.Form.{Form as SourceForm, imported}
 use Rattle.ui_sources.specs.Sources.{Source}
-use Rattle.ui_build.specs.Plan.{Text, Refusal, NoFile, Faulty, Form, TooLong, BadFrame, BadElement, TooMany, Cycle, Stale}
-use Rattle.ui_build.specs.Package.{folder, file_in, linked_file, is_source, form_or}
+use Rattle.ui_order.specs.Found.{Found, begun, least_unread, with_imports}
+use Rattle.ui_build.specs.Plan.{Text, Refusal}
+use Rattle.ui_build.specs.Package.{folder, file_in, linked_file, is_source, form_or, imports_in}
+use Rattle.ui_build.specs.Build.{within_limit, ordered}
 use Rattle.ui_build.specs.Loading.{Loaded, Imports, recorded, judgement}
 use Rattle.ui_build.specs.Stops.{refusal_of}
 use Rattle.ui_build.specs.declared.stop.Stop.{Stop}
@@ -65,13 +67,6 @@ pub record Loads (path : Text) (loaded : Loaded) (heard : List Hearing) : Type 0
   pub whole : heard ≡ (ask.Read, linked_file path, given.Bytes bytes) ∷ []
   pub stands : recorded (linked_file path) path (Some bytes) ≡ Ok loaded
 
--- what was heard of a package's linked file is why it is refused
-abbrev pub RefusesLinked : Text → Given → Refusal → Type 0
-RefusesLinked path (given.Bytes bytes) refusal = recorded (linked_file path) path (Some bytes) ≡ Err refusal
-RefusesLinked path given.TooLong refusal = recorded (linked_file path) path None ≡ Err refusal
-RefusesLinked path given.Missing refusal = ⊥
-RefusesLinked path (given.Names names) refusal = ⊥
-
 -- The linked files of these packages were read, one after another.
 abbrev pub LoadsAll : List Text → List Loaded → List Hearing → Type 0
 LoadsAll [] [] heard = heard ≡ []
@@ -109,66 +104,46 @@ abbrev pub CompilesAll : List Text → List Hearing → Type 0
 CompilesAll [] heard = heard ≡ []
 CompilesAll (path ∷ paths) heard = (first : List Hearing) × (others : List Hearing) × (heard ≡ first ++ others) × ((linked : Linked) × Compiles path linked first) × CompilesAll paths others
 
--- ---- why a step was refused
+-- ---- discovery
 
--- the last of what was heard
-abbrev pub HeardLast : Hearing → List Hearing → Type 0
-HeardLast last heard = (before : List Hearing) × (heard ≡ before ++ last ∷ [])
-
--- A folder or a file that isn't there was asked for last, or a folder without sources was listed last.
-abbrev pub LacksFile : Text → List Hearing → Type 0
-LacksFile name heard =
-    (HeardLast (ask.List, name, given.Missing) heard ⊎ HeardLast (ask.Read, name, given.Missing) heard)
-    ⊎ ((names : List Text) × HeardLast (ask.List, name, given.Names names) heard × (filter is_source names ≡ []))
-
--- The sources of some package were found last, and have no trees or no form.
-pub record BadSource (refusal : Refusal) (heard : List Hearing) : Type 0 where
-  pub path : Text
+-- Behind what was found so far a path was read: the sources of its package were found, and their
+-- imports, with which there aren't too many.
+pub record FindsOne (found : Found) (path : Text) (more : Found) (heard : List Hearing) : Type 0 where
   pub sources : List Source
-  pub before : List Hearing
-  pub found : List Hearing
-  pub whole : heard ≡ before ++ found
-  pub finds : FindsSources (folder path) sources found
-  pub refused : form_or path sources ≡ Err refusal
+  pub finds : FindsSources (folder path) sources heard
+  pub within : within_limit (with_imports found path (imports_in path sources)) ≡ Ok more
 
--- The linked file of some package was read last: it is too long, is no container, or stands for no package of that path.
-pub record BadLinked (refusal : Refusal) (heard : List Hearing) : Type 0 where
-  pub path : Text
-  pub given : Given
-  pub last : HeardLast (ask.Read, linked_file path, given) heard
-  pub refused : RefusesLinked path given refusal
+-- So much is found from a root in so many turns. In each the least path that isn't read yet is read.
+abbrev pub FindsIn : ℕ → Text → Found → List Hearing → Type 0
+FindsIn zero root found heard = (found ≡ begun root) × (heard ≡ [])
+FindsIn (suc turns) root found heard =
+    (before : Found) × (path : Text) × (first : List Hearing) × (last : List Hearing)
+    × (heard ≡ first ++ last) × FindsIn turns root before first
+    × (least_unread before ≡ Some path) × FindsOne before path found last
 
--- The sources of some package and the linked files of its imports were heard last, and the package is refused by them.
-pub record BadPackage (refusal : Refusal) (heard : List Hearing) : Type 0 where
-  pub path : Text
-  pub form : SourceForm
-  pub imports : List Loaded
-  pub before : List Hearing
-  pub last : List Hearing
-  pub whole : heard ≡ before ++ last
-  pub hears : HearsPackage path form imports last
-  pub refused : judgement path form (pairs_of imports) ≡ Err refusal
+abbrev pub Finds : Text → Found → List Hearing → Type 0
+Finds root found heard = (turns : ℕ) × FindsIn turns root found heard
 
--- Nothing is said here of too many packages and of a cycle of imports.
-abbrev pub RefusedBy : Refusal → List Hearing → Type 0
-RefusedBy (NoFile name) heard = LacksFile name heard
-RefusedBy (Faulty fault) heard = BadSource (Faulty fault) heard ⊎ BadPackage (Faulty fault) heard
-RefusedBy (Form pos) heard = BadSource (Form pos) heard
-RefusedBy (TooLong name) heard = BadLinked (TooLong name) heard
-RefusedBy (BadFrame name fault) heard = BadLinked (BadFrame name fault) heard
-RefusedBy (BadElement name) heard = BadLinked (BadElement name) heard
-RefusedBy TooMany heard = ⊤
-RefusedBy (Cycle path) heard = ⊤
-RefusedBy (Stale path first second) heard = BadPackage (Stale path first second) heard
+-- All that a root needs is found.
+pub record FindsAll (root : Text) (found : Found) (heard : List Hearing) : Type 0 where
+  pub finds : Finds root found heard
+  pub all : least_unread found ≡ None
+
+-- All that a root needs is found, and this is its order.
+pub record FindsOrder (root : Text) (order : List Text) (heard : List Hearing) : Type 0 where
+  pub found : Found
+  pub finds : FindsAll root found heard
+  pub ordered : ordered found.read ≡ Ok order
 
 -- ---- a step
 
--- a fault of a device or want of memory may come whatever was heard
-abbrev pub StoppedBy : Stop → List Hearing → Type 0
-StoppedBy (stop.Refused refusal) heard = RefusedBy (refusal_of refusal) heard
-StoppedBy (stop.ReadFault name) heard = ⊤
-StoppedBy (stop.WriteFault name) heard = ⊤
-StoppedBy stop.NoMemory heard = ⊤
+-- A refusal comes by what was heard, as said of it; a fault of a device and want of memory come
+-- whatever was heard.
+abbrev pub StoppedBy : (Refusal → List Hearing → Type 0) → Stop → List Hearing → Type 0
+StoppedBy refuses (stop.Refused refusal) heard = refuses (refusal_of refusal) heard
+StoppedBy refuses (stop.ReadFault name) heard = ⊤
+StoppedBy refuses (stop.WriteFault name) heard = ⊤
+StoppedBy refuses stop.NoMemory heard = ⊤
 
 -- a step that writes hears nothing, and is not refused
 abbrev pub IsNoRefusal : Stop → Type 0
@@ -181,22 +156,23 @@ pub record HearsNothing {X : Type 0} (old new : StoreView) (result : Result X St
   pub told : new.heard ≡ old.heard
   pub stop : IfErr result IsNoRefusal
 
-abbrev pub EndsBy : {X : Type 0} → (X → List Hearing → Type 0) → Result X Stop → List Hearing → Type 0
-EndsBy gives (Ok x) heard = gives x heard
-EndsBy gives (Err s) heard = StoppedBy s heard
+abbrev pub EndsBy : {X : Type 0} → (X → List Hearing → Type 0)
+    → (Refusal → List Hearing → Type 0) → Result X Stop → List Hearing → Type 0
+EndsBy gives refuses (Ok x) heard = gives x heard
+EndsBy gives refuses (Err s) heard = StoppedBy refuses s heard
 
--- What a step heard, and that it ended by that: it gave a value as said of the value, or was stopped.
-pub record HearsIn {X : Type 0} (gives : X → List Hearing → Type 0) (old new : Hearings) (result : Result X Stop) : Type 0 where
+-- What a step heard, and that it ended by that: it gave a value as said of the value, was refused as
+-- said of the refusal, or was stopped.
+pub record HearsIn {X : Type 0} (gives : X → List Hearing → Type 0) (refuses : Refusal → List Hearing → Type 0) (old new : Hearings) (result : Result X Stop) : Type 0 where
   pub heard : List Hearing
   pub told : new ≡ more old heard
-  pub ends : EndsBy gives result heard
+  pub ends : EndsBy gives refuses result heard
 
-abbrev pub Hears : {X : Type 0} → (X → List Hearing → Type 0) → StoreView → StoreView → Result X Stop → Type 0
-Hears gives old new result = HearsIn gives old.heard new.heard result
+abbrev pub Hears : {X : Type 0} → (X → List Hearing → Type 0)
+    → (Refusal → List Hearing → Type 0) → StoreView → StoreView → Result X Stop → Type 0
+Hears gives refuses old new result = HearsIn gives refuses old.heard new.heard result
 
--- a step whose value says nothing of what was heard
-abbrev pub Anything : {X : Type 0} → X → List Hearing → Type 0
-Anything x heard = ⊤
+-- ---- a build
 
 -- What a build hears: the sources of the packages found, then of each package in their order its sources and the linked
 -- files of its imports, and at the end the linked file of the root, which stands for the export.
@@ -207,6 +183,7 @@ pub record Builds (path : Text) (export : Export) (heard : List Hearing) : Type 
   pub compiled : List Hearing
   pub last : List Hearing
   pub whole : heard ≡ discovered ++ (compiled ++ last)
+  pub finds : FindsOrder path order discovered
   pub compiles : CompilesAll order compiled
   pub loads : Loads path root last
   pub stands : root.0.export ≡ export

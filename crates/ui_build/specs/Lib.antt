@@ -6,6 +6,7 @@ pub mod Sources
 pub mod Stops
 pub mod Views
 pub mod Heard
+pub mod Refused
 pub mod Built
 pub mod Dump
 pub mod Laws

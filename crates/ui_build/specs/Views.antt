@@ -3,7 +3,6 @@ use Rattle.std.specs.Prelude.{Bool, ◌&&◌, nat_eq, length}
 use Rattle.ui_base.specs.Paths.{is_path}
 use Rattle.ui_build.specs.Plan.{Text}
 use Rattle.ui_build.specs.Loading as plans
-use Rattle.ui_build.specs.Loading.{entry_of}
 use Rattle.ui_build.specs.declared.loading.Loaded.{Loaded}
 use Rattle.ui_build.specs.declared.loading.Imports.{Imports}
 

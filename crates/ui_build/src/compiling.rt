@@ -8,6 +8,7 @@ ghost use Rattle.ui_build.specs.Package.{read_form};
 ghost use Rattle.ui_build.specs.Build.{Packages, compile, compile_all, package_limit, write_files};
 ghost use Rattle.ui_build.specs.Loading.{entry_of, linked_as, prepared};
 ghost use Rattle.ui_build.specs.Heard.{Compiles, CompilesAll, Hears, HearsNothing, ReadsForm};
+ghost use Rattle.ui_build.specs.Refused.{BadPackage, BadPackages, LacksForm};
 ghost use Rattle.ui_build.specs.Built.{Compiled, IsInOrder, IsReady, Stands};
 ghost use Rattle.ui_build.specs.Stops.{seen, Carries, Does, DoesTold, HasCause};
 
@@ -30,7 +31,8 @@ fn read_form<S: Store>(alloc: Global, store: &mut S, path: &str) -> Result<Form,
     ensures does { DoesTold (λ f. f) (λ told. read_form told path.now)
         (S.told store.old) (S.told store.new) result }
     ensures files { (S.told store.new).files ≡ (S.told store.old).files }
-    ensures heard { Hears (λ f. ReadsForm path.now f) (S.told store.old) (S.told store.new) result }
+    ensures heard { Hears (λ f. ReadsForm path.now f) (LacksForm path.now)
+        (S.told store.old) (S.told store.new) result }
     ensures cause { HasCause (S.told store.old) (S.told store.new) result }
     ensures own { IfOk result (λ f. f.path ≡ path.now) }
 {
@@ -44,7 +46,8 @@ fn prepare<S: Store>(alloc: Global, store: &mut S, path: &str) -> Result<Linked,
     ensures does { DoesTold (λ l. l) (λ told. prepared told path.now)
         (S.told store.old) (S.told store.new) result }
     ensures files { (S.told store.new).files ≡ (S.told store.old).files }
-    ensures heard { Hears (λ l. Compiles path.now l) (S.told store.old) (S.told store.new) result }
+    ensures heard { Hears (λ l. Compiles path.now l) (BadPackage path.now)
+        (S.told store.old) (S.told store.new) result }
     ensures cause { HasCause (S.told store.old) (S.told store.new) result }
     ensures own { IfOk result (λ l. l.export.path ≡ path.now) }
     ensures small { IfOk result IsSmall }
@@ -75,8 +78,9 @@ fn write_files<S: Store>(alloc: Global, store: &mut S, path: &str, of: &Linked) 
 
 /// Compiles a package, whose imports are compiled, from its own sources and their linked files.
 ///
-/// Over a store that tells its files: where the linked files of the packages before stand for what the sources declare,
-/// the outcome is that by the sources alone, and then the linked file of this package does, too.
+/// Over a store that tells its files: where the linked files of the packages before stand for what
+/// the sources declare, the outcome is that by the sources alone, and then the linked file of this
+/// package does, too.
 pub fn compile<S: Store>(alloc: Global, store: &mut S, path: &str) -> Result<Linked, Stop>
     ensures does { (files told : Files) (packages : Packages) → (S.told store.old).files ≡ Some told
         → IsReady files told packages path.now → Does entry_of (compile files packages path.now)
@@ -84,7 +88,8 @@ pub fn compile<S: Store>(alloc: Global, store: &mut S, path: &str) -> Result<Lin
     ensures stands { IfOk result (λ l. (files told : Files) (packages : Packages)
         → (S.told store.old).files ≡ Some told → IsReady files told packages path.now
         → Stands files (S.told store.new).files (insert packages path.now (entry_of l))) }
-    ensures heard { Hears (λ l. Compiles path.now l) (S.told store.old) (S.told store.new) result }
+    ensures heard { Hears (λ l. Compiles path.now l) (BadPackage path.now)
+        (S.told store.old) (S.told store.new) result }
     ensures cause { HasCause (S.told store.old) (S.told store.new) result }
 {
     one_container();
@@ -105,7 +110,7 @@ pub fn compile_all<S: Store>(alloc: Global, store: &mut S, order: &[String]) -> 
         (compile_all files empty (map string_bytes order.now))
         (seen (S.told store.old)) (seen (S.told store.new)) result }
     ensures heard { Hears (λ _. CompilesAll (map string_bytes order.now))
-        (S.told store.old) (S.told store.new) result }
+        (BadPackages (map string_bytes order.now)) (S.told store.old) (S.told store.new) result }
     ensures cause { HasCause (S.told store.old) (S.told store.new) result }
 {
     for path in order {

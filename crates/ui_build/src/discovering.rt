@@ -5,8 +5,10 @@ ghost use Rattle.ui_order.specs.Tables.{texts};
 ghost use Rattle.ui_sources.specs.Sources.{source_of};
 ghost use Rattle.ui_build.specs.Plan.{Text};
 ghost use Rattle.ui_build.specs.Package.{imports_in};
-ghost use Rattle.ui_build.specs.Build.{build_order, discover, discover_one, ordered, package_limit, within_limit};
-ghost use Rattle.ui_build.specs.Heard.{Anything, Hears};
+ghost use Rattle.ui_build.specs.Build.{build_order, discover, discover_one, ordered};
+ghost use Rattle.ui_build.specs.Build.{package_limit, within_limit};
+ghost use Rattle.ui_build.specs.Heard.{FindsAll, FindsOne, FindsOrder, Hears};
+ghost use Rattle.ui_build.specs.Refused.{LacksOne, LacksOrder, LacksPackages};
 ghost use Rattle.ui_build.specs.Stops.{DoesTold, HasCause, Settles};
 
 use crate::judging::imports_in;
@@ -50,7 +52,8 @@ fn discover_one<S: Store>(
     ensures does { DoesTold (λ d. d) (λ told. discover_one told discovery (string_bytes path))
         (S.told store.old) (S.told store.new) result }
     ensures files { (S.told store.new).files ≡ (S.told store.old).files }
-    ensures heard { Hears (λ x. Anything x) (S.told store.old) (S.told store.new) result }
+    ensures heard { Hears (λ d. FindsOne discovery (string_bytes path) d)
+        (LacksOne discovery (string_bytes path)) (S.told store.old) (S.told store.new) result }
     ensures cause { HasCause (S.told store.old) (S.told store.new) result }
     ensures found { IfOk result (λ d. (root : Text) → IsFound root discovery → IsFound root d) }
 {
@@ -75,7 +78,8 @@ pub fn discover<S: Store>(alloc: Global, store: &mut S, root: &str) -> Result<Di
     ensures does { DoesTold (λ d. d) (λ told. discover (suc package_limit) told (begun root.now))
         (S.told store.old) (S.told store.new) result }
     ensures files { (S.told store.new).files ≡ (S.told store.old).files }
-    ensures heard { Hears (λ x. Anything x) (S.told store.old) (S.told store.new) result }
+    ensures heard { Hears (λ d. FindsAll root.now d) (LacksPackages root.now)
+        (S.told store.old) (S.told store.new) result }
     ensures cause { HasCause (S.told store.old) (S.told store.new) result }
     ensures found { IfOk result (λ d. IsFound root.now d) }
     ensures all { IfOk result (λ d. least_unread d ≡ None) }
@@ -110,7 +114,8 @@ pub fn build_order<S: Store>(alloc: Global, store: &mut S, root: &str) -> Result
     ensures does { DoesTold texts (λ told. build_order told root.now)
         (S.told store.old) (S.told store.new) result }
     ensures files { (S.told store.new).files ≡ (S.told store.old).files }
-    ensures heard { Hears (λ x. Anything x) (S.told store.old) (S.told store.new) result }
+    ensures heard { Hears (λ v. FindsOrder root.now (texts v)) (LacksOrder root.now)
+        (S.told store.old) (S.told store.new) result }
     ensures cause { HasCause (S.told store.old) (S.told store.new) result }
 {
     discovery_keeps();

@@ -5,6 +5,7 @@ ghost use Rattle.ui_store.specs.Files.{texts};
 ghost use Rattle.ui_build.specs.Package.{list_folder, read_file};
 ghost use Rattle.ui_build.specs.Dump.{IsReadStop};
 ghost use Rattle.ui_build.specs.Heard.{HasListed, HasRead, Hears, HearsNothing};
+ghost use Rattle.ui_build.specs.Refused.{LacksFile, LacksFolder};
 ghost use Rattle.ui_build.specs.Stops.{AsksWrite, DoesTold, HasCause, WritesFile};
 
 use crate::stop::{Refusal, Stop};
@@ -24,7 +25,7 @@ pub fn list_folder<S: Store>(
         (S.told store.old) (S.told store.new) result }
     ensures files { (S.told store.new).files ≡ (S.told store.old).files }
     ensures heard { Hears (λ v. HasListed (string_bytes folder) (texts v))
-        (S.told store.old) (S.told store.new) result }
+        (LacksFolder (string_bytes folder)) (S.told store.old) (S.told store.new) result }
     ensures cause { HasCause (S.told store.old) (S.told store.new) result }
 {
     match store.list(alloc, folder.as_str()) {
@@ -49,7 +50,7 @@ pub fn read_file<S: Store>(
         (S.told store.old) (S.told store.new) result }
     ensures files { (S.told store.new).files ≡ (S.told store.old).files }
     ensures heard { Hears (λ o. HasRead (string_bytes name, option_map (λ v. v.items) o))
-        (S.told store.old) (S.told store.new) result }
+        (LacksFile (string_bytes name)) (S.told store.old) (S.told store.new) result }
     ensures cause { HasCause (S.told store.old) (S.told store.new) result }
     ensures stop { IfErr result IsReadStop }
 {

@@ -65,7 +65,8 @@ pub fn form_in(alloc: Global, path: &str, sources: &[Source]) -> Result<Form, St
     Ok(form)
 }
 
-/// The paths that the sources of a package import, whether they have a form or not; none where one of them has a fault.
+/// The paths that the sources of a package import, whether they have a form or not; none where one
+/// of them has a fault.
 pub fn imports_in(alloc: Global, path: &str, sources: &[Source]) -> Result<Vec<String>, Stop>
     ensures { Settles texts (Ok (imports_in path.now (map source_of sources.now))) result }
 {

@@ -3,7 +3,8 @@ ghost use Rattle.ui_build.specs.Laws.{RefusesBySources, SourcesDecide, TurnsSuff
 
 use ui_order::{discovery_keeps, order_is_whole};
 
-/// Over told files: with more turns than one for each package that may be found, discovery does the same.
+/// Over told files: with more turns than one for each package that may be found, discovery does the
+/// same.
 pub fn turns_suffice()
     ensures { TurnsSuffice }
 {
@@ -16,7 +17,8 @@ pub fn sources_decide()
     ensures { SourcesDecide }
 {}
 
-/// Over told files: a build is refused by sources, and never because a linked file is missing, bad or stale.
+/// Over told files: a build is refused by sources, and never because a linked file is missing, bad
+/// or stale.
 pub fn refuses_by_sources()
     ensures { RefusesBySources }
 {

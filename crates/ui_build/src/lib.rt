@@ -1,5 +1,6 @@
-//! Building packages over a store: they are found, put in order, compiled each from its own sources and the linked files
-//! of its imports, and the root's linked file is read. Such a file is also read alone.
+//! Building packages over a store: they are found, put in order, compiled each from its own sources
+//! and the linked files of its imports, and the root's linked file is read. Such a file is also
+//! read alone.
 #![tactic(auto)]
 
 mod building;

@@ -10,6 +10,7 @@ ghost use Rattle.ui_below.specs.Claims.{claims};
 ghost use Rattle.ui_build.specs.Loading.{load, load_all, or_element, recorded};
 ghost use Rattle.ui_build.specs.Dump.{IsReadStop};
 ghost use Rattle.ui_build.specs.Heard.{Hears, Loads, LoadsImports};
+ghost use Rattle.ui_build.specs.Refused.{BadImports, BadLinked};
 ghost use Rattle.ui_build.specs.Views.{loaded_of, imports_of, is_sound};
 ghost use Rattle.ui_build.specs.Stops.{DoesTold, HasCause, Settles};
 
@@ -92,7 +93,7 @@ pub fn load<S: Store>(alloc: Global, store: &mut S, path: &str) -> Result<Loaded
     ensures does { DoesTold loaded_of (λ told. load told path.now)
         (S.told store.old) (S.told store.new) result }
     ensures files { (S.told store.new).files ≡ (S.told store.old).files }
-    ensures heard { Hears (λ l. Loads path.now (loaded_of l))
+    ensures heard { Hears (λ l. Loads path.now (loaded_of l)) (BadLinked path.now)
         (S.told store.old) (S.told store.new) result }
     ensures cause { HasCause (S.told store.old) (S.told store.new) result }
     ensures stop { IfErr result IsReadStop }
@@ -120,7 +121,7 @@ pub fn load_all<S: Store>(alloc: Global, store: &mut S, paths: &[String]) -> Res
         (S.told store.old) (S.told store.new) result }
     ensures files { (S.told store.new).files ≡ (S.told store.old).files }
     ensures heard { Hears (λ i. LoadsImports (map string_bytes paths.now) (imports_of i))
-        (S.told store.old) (S.told store.new) result }
+        (BadImports (map string_bytes paths.now)) (S.told store.old) (S.told store.new) result }
     ensures cause { HasCause (S.told store.old) (S.told store.new) result }
     ensures paths { IfOk result
         (λ i. map (λ l. l.export.path) i.files.items ≡ map string_bytes paths.now) }

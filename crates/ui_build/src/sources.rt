@@ -1,8 +1,10 @@
 // The sources of a package: found in its folder, and read.
 ghost use Rattle.std.specs.Prelude.{◌≡◌, ◌≤◌, [], IfOk, filter, map, string_bytes};
 ghost use Rattle.ui_sources.specs.Sources.{source_of};
-ghost use Rattle.ui_build.specs.Package.{find, read_source, read_sources, is_source, folder, file_in};
+ghost use Rattle.ui_build.specs.Package.{find, read_source, read_sources};
+ghost use Rattle.ui_build.specs.Package.{file_in, folder, is_source};
 ghost use Rattle.ui_build.specs.Heard.{FindsSources, HasRead, Hears, ReadsSources};
+ghost use Rattle.ui_build.specs.Refused.{LacksFile, LacksSource, LacksSources};
 ghost use Rattle.ui_build.specs.Stops.{DoesTold, HasCause};
 ghost use Rattle.ui_build.specs.Sources.{sources_of};
 
@@ -31,7 +33,7 @@ fn read_source<S: Store>(
     ensures does { DoesTold source_of (λ told. read_source told (file_in folder.now part.now))
         (S.told store.old) (S.told store.new) result }
     ensures files { (S.told store.new).files ≡ (S.told store.old).files }
-    ensures heard { Hears (λ s. HasRead (source_of s))
+    ensures heard { Hears (λ s. HasRead (source_of s)) (LacksFile (file_in folder.now part.now))
         (S.told store.old) (S.told store.new) result }
     ensures name { IfOk result (λ s. string_bytes s.name ≡ file_in folder.now part.now) }
     ensures cause { HasCause (S.told store.old) (S.told store.new) result }
@@ -55,6 +57,7 @@ fn read_sources<S: Store>(
     ensures files { (S.told store.new).files ≡ (S.told store.old).files }
     ensures heard { Hears (λ v. ReadsSources folder.now
         (filter is_source (map string_bytes names.now)) (sources_of v))
+        (LacksSource folder.now (filter is_source (map string_bytes names.now)))
         (S.told store.old) (S.told store.new) result }
     ensures cause { HasCause (S.told store.old) (S.told store.new) result }
 {
@@ -69,13 +72,14 @@ fn read_sources<S: Store>(
     Ok(sources)
 }
 
-/// Finds and reads the sources of a package, in the order in which the store lists them: ascending by name.
+/// Finds and reads the sources of a package, in the order in which the store lists them: ascending
+/// by name.
 pub fn find<S: Store>(alloc: Global, store: &mut S, path: &str) -> Result<Vec<Source>, Stop>
     ensures does { DoesTold sources_of (λ told. find told (folder path.now))
         (S.told store.old) (S.told store.new) result }
     ensures files { (S.told store.new).files ≡ (S.told store.old).files }
     ensures heard { Hears (λ v. FindsSources (folder path.now) (sources_of v))
-        (S.told store.old) (S.told store.new) result }
+        (LacksSources (folder path.now)) (S.told store.old) (S.told store.new) result }
     ensures cause { HasCause (S.told store.old) (S.told store.new) result }
 {
     let folder = names::folder(alloc, path)?;

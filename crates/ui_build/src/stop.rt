@@ -5,7 +5,8 @@ use std::alloc::{AllocError, AllocFailed};
 use ui_base::{Fault, Pos, Text};
 use ui_frame::FrameFault;
 
-/// Why the sources or the files give no answers. Each `String` is a name in the store, but for the path of `Cycle`.
+/// Why the sources or the files give no answers. Each `String` is a name in the store, but for the
+/// path of `Cycle`.
 #[derive(Drop)]
 pub enum Refusal {
     /// There is no such file, or no such folder of sources.
@@ -35,7 +36,8 @@ pub enum Refusal {
     },
 }
 
-/// What stops a step: a refusal, a fault of the store with the name that was asked, or want of memory.
+/// What stops a step: a refusal, a fault of the store with the name that was asked, or want of
+/// memory.
 #[derive(Drop)]
 pub enum Stop {
     Refused(Refusal),

@@ -15,8 +15,8 @@ use Rattle.ui_top.specs.Answers.{answers}
 use Rattle.ui_top.specs.Outcome.{Outcome, Command, Build, Dump, outcome, plan_of, queries_of, of_plan, ends_of, out_of, line_of, refused_as, refusal_line}
 use Rattle.ui_build.specs.Stops.{State, seen, Ends, Stops, DoesStop, Does, DoesTold, HasCause, StopCause, refusal_of}
 use Rattle.ui_top.specs.Ends.{Answered, EndsBy, EndsAnswered, EndsStopped, status_of, stop_line, answers_status, answers_line}
-use Rattle.ui_build.specs.Heard.{Hears, RefusedBy}
-use Rattle.ui_top.specs.Scene.{Scene, Said, Reached, Excused, Reaches, Refuses, Gives, Exported, RefusesPackage, FailsWriting, Caused, Runs, Completes, IsExcused}
+use Rattle.ui_build.specs.Heard.{Hears}
+use Rattle.ui_top.specs.Scene.{Scene, Said, Reached, Excused, Reaches, Refuses, RefusedBy, Gives, Exported, RefusesPackage, FailsWriting, Caused, Runs, Completes, IsExcused}
 use Rattle.ui_top.specs.declared.answers.Unanswered.{Unanswered}
 use Rattle.ui_top.specs.declared.answers.Unanswered.TheVariants as unanswered
 use Rattle.ui_top.specs.declared.status.Status.{Status}
@@ -73,14 +73,14 @@ may_refuse (Build path queries) r may = tt
 may_refuse (Dump path queries) r may = may
 
 -- what was heard is why
-refuses : (old new : Scene) (r : Refusal) (heard : List Hearing) → new.store.heard ≡ more old.store.heard heard → RefusedBy r heard → Said (refusal_line r) old new → new.out ≡ old.out → Refuses old new (refused_as r)
-refuses old new r heard told by said out = record { refusal = r; heard = heard; told = told; refused = by; status = refl; line = said; out = out }
+refuses : (command : Command) (old new : Scene) (r : Refusal) (heard : List Hearing) → new.store.heard ≡ more old.store.heard heard → RefusedBy command r heard → Said (refusal_line r) old new → new.out ≡ old.out → Refuses command old new (refused_as r)
+refuses command old new r heard told by said out = record { refusal = r; heard = heard; told = told; refused = by; status = refl; line = said; out = out }
 
-refuses_package : (command : Command) (old new : Scene) (ends : Status) (r : Refusal) → (IsOfFile r → ⊥) → MayRefuse command r → Refuses old new ends → RefusesPackage command old new ends
+refuses_package : (command : Command) (old new : Scene) (ends : Status) (r : Refusal) → (IsOfFile r → ⊥) → MayRefuse command r → Refuses command old new ends → RefusesPackage command old new ends
 refuses_package (Build path queries) old new ends r other may by = by
 refuses_package (Dump path queries) old new ends r other may by = absurd (other may)
 
-refusal_caused : (command : Command) (old new : Scene) (r : Refusal) → MayRefuse command r → Refuses old new (refused_as r) → Caused command old new (refused_as r)
+refusal_caused : (command : Command) (old new : Scene) (r : Refusal) → MayRefuse command r → Refuses command old new (refused_as r) → Caused command old new (refused_as r)
 refusal_caused command old new (NoFile name) may by = by
 refusal_caused command old new (Form pos) may by = refuses_package command old new status.Refused (Form pos) (λ h. h) may by
 refusal_caused command old new (Faulty fault) may by = refuses_package command old new status.Refused (Faulty fault) (λ h. h) may by
@@ -93,14 +93,14 @@ refusal_caused command old new (Stale at first second) may by = refuses_package 
 
 -- a command that ended so by what it heard
 abbrev CommandHears : Command → Scene → Scene → Result Export Stop → Type 0
-CommandHears command old new result = Hears (Gives command) old.store new.store result
+CommandHears command old new result = Hears (Gives command) (RefusedBy command) old.store new.store result
 
 fails_writing : (command : Command) (old new : Scene) (name : String Global) → MayStop command (stop.WriteFault name) → StopCause old.store new.store (stop.WriteFault name) → new.out ≡ old.out → Said (stop_line (stop.WriteFault name)) old new → FailsWriting command old new
 fails_writing (Build path queries) old new name may cause out said = (cause.0, (string_bytes name, cause.1, said), out)
 fails_writing (Dump path queries) old new name may cause out said = absurd may
 
 stop_caused : (command : Command) (old new : Scene) (s : Stop) → MayStop command s → StopCause old.store new.store s → CommandHears command old new (Err s) → new.out ≡ old.out → Said (stop_line s) old new → Caused command old new (status_of s)
-stop_caused command old new (stop.Refused r) may cause hears out said = refusal_caused command old new (refusal_of r) (may_refuse command r may) (refuses old new (refusal_of r) hears.heard hears.told hears.ends said out)
+stop_caused command old new (stop.Refused r) may cause hears out said = refusal_caused command old new (refusal_of r) (may_refuse command r may) (refuses command old new (refusal_of r) hears.heard hears.told hears.ends said out)
 stop_caused command old new (stop.ReadFault name) may cause hears out said = (cause.0, (string_bytes name, cause.1, said), out)
 stop_caused command old new (stop.WriteFault name) may cause hears out said = fails_writing command old new name may cause out said
 stop_caused command old new stop.NoMemory may cause hears out said = (said, inl out)

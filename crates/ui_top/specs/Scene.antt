@@ -10,7 +10,8 @@ use Rattle.ui_exports.specs.Export.{Export}
 use Rattle.ui_build.specs.Plan.{Text, Refusal}
 use Rattle.ui_top.specs.Answers.{answers}
 use Rattle.ui_build.specs.Stops.{Puts, PutsFront, AsksFront, EndsWith}
-use Rattle.ui_build.specs.Heard.{RefusedBy, Builds}
+use Rattle.ui_build.specs.Heard.{Builds}
+use Rattle.ui_build.specs.Refused.{BuildRefused, BadLinked}
 use Rattle.ui_build.specs.Dump.{Dumps}
 use Rattle.ui_top.specs.Outcome.{Outcome, Command, Build, Dump, outcome, queries_of, line, refused_as, refusal_line, answers_end, usage}
 use Rattle.ui_top.specs.declared.status.Status.{Status}
@@ -79,12 +80,17 @@ Reaches want old new ends = Excused want old new ends ⊎ Reached want old new e
 abbrev pub ReadLast : Calls → Text → Type 0
 ReadLast asked name = EndsWith asked (ask.List, name) ⊎ EndsWith asked (ask.Read, name)
 
+-- What a command hears that refuses it: a build, or the one linked file.
+abbrev pub RefusedBy : Command → Refusal → List Hearing → Type 0
+RefusedBy (Build path queries) refusal heard = BuildRefused path refusal heard
+RefusedBy (Dump path queries) refusal heard = BadLinked path refusal heard
+
 -- The command was refused by what it heard, and says that refusal alone.
-pub record Refuses (old new : Scene) (ends : Status) : Type 0 where
+pub record Refuses (command : Command) (old new : Scene) (ends : Status) : Type 0 where
   pub refusal : Refusal
   pub heard : List Hearing
   pub told : new.store.heard ≡ more old.store.heard heard
-  pub refused : RefusedBy refusal heard
+  pub refused : RefusedBy command refusal heard
   pub status : ends ≡ refused_as refusal
   pub line : Said (refusal_line refusal) old new
   pub out : new.out ≡ old.out
@@ -120,7 +126,7 @@ FailsWriting (Dump path queries) old new = ⊥
 
 -- It was refused by sources, or by linked files that don't fit together, which a command that reads one file never is.
 abbrev pub RefusesPackage : Command → Scene → Scene → Status → Type 0
-RefusesPackage (Build path queries) old new ends = Refuses old new ends
+RefusesPackage (Build path queries) old new ends = Refuses (Build path queries) old new ends
 RefusesPackage (Dump path queries) old new ends = ⊥
 
 -- Why a command ends so, over every store, source and sink: a fault comes from its device, whose count rose, and names
@@ -135,8 +141,8 @@ Caused command old new status.InputTooLong = ⊥
 Caused command old new status.Ok = Answers command old new status.Ok
 Caused command old new status.QueryRefused = Answers command old new status.QueryRefused
 Caused command old new status.Refused = RefusesPackage command old new status.Refused
-Caused command old new status.NoFile = Refuses old new status.NoFile
-Caused command old new status.BadFile = Refuses old new status.BadFile
+Caused command old new status.NoFile = Refuses command old new status.NoFile
+Caused command old new status.BadFile = Refuses command old new status.BadFile
 Caused command old new status.Stale = RefusesPackage command old new status.Stale
 
 -- What a command does.

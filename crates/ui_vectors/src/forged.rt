@@ -10,7 +10,8 @@ use std::test::Fail;
 use ui_store::{MemStore, Store, StoreFault};
 use ui_top::Status;
 
-// A store that tells nothing of itself, and gives other bytes at one linked file; where it has none, that is too long.
+// A store that tells nothing of itself, and gives other bytes at one linked file; where it has
+// none, that is too long.
 #[derive(Drop)]
 struct Forged {
     inner: MemStore,
@@ -20,7 +21,12 @@ struct Forged {
 
 #[tactic(auto, unfolding(ui_store::specs::Told::more))]
 impl Store for Forged {
-    ghost told = { λ s. record { files = None; asked = None; heard = None; faults = (memory_of s.inner).faults } };
+    ghost told = { λ s. record {
+      files = None;
+      asked = None;
+      heard = None;
+      faults = (memory_of s.inner).faults;
+    } };
 
     fn list(&mut self, alloc: Global, dir: &str) -> Result<Vec<String>, StoreFault> {
         match self.inner.list(alloc, dir) {

@@ -8,9 +8,10 @@ use Rattle.ui_build.specs.Plan.{asking, ◌>>=◌}
 use Rattle.ui_build.specs.Package.{linked_file}
 use Rattle.ui_build.specs.Build.{build, build_order, compile_all, export_or}
 use Rattle.ui_build.specs.Heard.{Builds, HearsIn}
+use Rattle.ui_build.specs.Refused.{BadLinked, BuildRefused}
 use Rattle.ui_build.specs.Views.{loaded_of}
 use Rattle.ui_build.specs.Stops.{state, DoesSeen}
-use Rattle.ui_build.proofs.Hearing.{heard_stop, heard_then_stop, heard_both_stop, heard_build}
+use Rattle.ui_build.proofs.Hearing.{heard_build, build_unordered, build_uncompiled, build_unread}
 use Rattle.ui_build.proofs.Steps.{told_stop}
 use Rattle.ui_build.proofs.Linking.{Containers}
 use Rattle.ui_build.proofs.Discovered.{Orders}
@@ -51,20 +52,20 @@ returns-clause-does g c =
 pub returns-in_err-order-clause-heard : goal.returns-in_err-order-clause-heard
 returns-in_err-order-clause-heard g c =
     let p = err_from_is_err_and c.from_residual.result c.from_residual.ensures.1 in
-    rw (p.1, p.2) (heard_stop _ (Builds c.args.path.now) c.in_err-order.field-0.0 _ _ c.in_err-order.ensures.heard)
+    rw (p.1, p.2) (build_unordered _ (Builds c.args.path.now) c.args.path.now c.in_err-order.field-0.0 _ _ c.in_err-order.ensures.heard)
 
 pub returns-in_err-compile_all-clause-heard : goal.returns-in_err-compile_all-clause-heard
 returns-in_err-compile_all-clause-heard g c =
     let p = err_from_is_err_and c.from_residual-in_err-compile_all.result c.from_residual-in_err-compile_all.ensures.1 in
-    rw (p.1, p.2) (heard_then_stop _ _ (Builds c.args.path.now) c.in_ok-order.order c.in_err-compile_all.field-0.0 _ _ _ c.in_ok-order.ensures.heard c.in_err-compile_all.ensures.heard)
+    rw (p.1, p.2) (build_uncompiled texts _ (Builds c.args.path.now) c.args.path.now c.in_ok-order.order c.in_err-compile_all.field-0.0 _ _ _ c.in_ok-order.ensures.heard (rw c.deref.ensures.value at c.in_err-compile_all.ensures.heard))
 
 pub returns-in_err-loaded-clause-heard : goal.returns-in_err-loaded-clause-heard
 returns-in_err-loaded-clause-heard g c =
     let p = err_from_is_err_and c.from_residual-in_err-loaded.result c.from_residual-in_err-loaded.ensures.1 in
-    rw (p.1, p.2) (heard_both_stop _ _ _ (Builds c.args.path.now) c.in_ok-order.order tt c.in_err-loaded.field-0.0 _ _ _ _ c.in_ok-order.ensures.heard c.in_ok-compile_all.ensures.heard c.in_err-loaded.ensures.heard)
+    rw (p.1, p.2) (build_unread texts _ (Builds c.args.path.now) c.args.path.now c.in_ok-order.order c.in_err-loaded.field-0.0 _ _ _ _ c.in_ok-order.ensures.heard (rw c.deref.ensures.value at c.in_ok-compile_all.ensures.heard) c.in_err-loaded.ensures.heard)
 
 pub returns-clause-heard : goal.returns-clause-heard
 returns-clause-heard g c =
-    let P : Export → Type 0 = λ x. HearsIn (Builds c.args.path.now) (g.S.Store.told c.args.store.now).heard (g.S.Store.told c.load.new.store).heard (Ok x) in
+    let P : Export → Type 0 = λ x. HearsIn (Builds c.args.path.now) (BuildRefused c.args.path.now) (g.S.Store.told c.args.store.now).heard (g.S.Store.told c.load.new.store).heard (Ok x) in
     subst P (sym c.package_of-package.ensures)
-    (heard_build _ loaded_of c.args.path.now (texts c.in_ok-order.order) c.in_ok-order.order tt c.in_ok-loaded.loaded _ _ _ _ c.in_ok-order.ensures.heard (rw c.deref.ensures.value at c.in_ok-compile_all.ensures.heard) c.in_ok-loaded.ensures.heard)
+    (heard_build texts loaded_of (BadLinked c.args.path.now) (BuildRefused c.args.path.now) c.args.path.now c.in_ok-order.order c.in_ok-loaded.loaded _ _ _ _ c.in_ok-order.ensures.heard (rw c.deref.ensures.value at c.in_ok-compile_all.ensures.heard) c.in_ok-loaded.ensures.heard)

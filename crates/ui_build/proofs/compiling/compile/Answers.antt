@@ -1,8 +1,9 @@
 use Rattle.std.proofs.Common.{◌∙◌}
 use Rattle.std.proofs.lemmas.Result.{err_from_is_err_and}
 use Rattle.ui_build.specs.Heard.{Compiles}
+use Rattle.ui_build.specs.Refused.{BadPackage}
 use Rattle.ui_build.specs.Stops.{state}
-use Rattle.ui_build.proofs.Hearing.{heard_stop, heard_then_none, heard_value}
+use Rattle.ui_build.proofs.Hearing.{heard_same, heard_then_none, heard_value}
 use Rattle.ui_build.proofs.Sufficient.{Laws}
 use Rattle.ui_build.proofs.Compiled.{prepared_ok, prepared_stop, compile_stop, compile_ok, compile_stands}
 use Rattle.ui_build.proofs.compiling.compile.Goals as goal
@@ -47,12 +48,12 @@ returns-clause-stands g c =
 pub returns-in_err-linked-clause-heard : goal.returns-in_err-linked-clause-heard
 returns-in_err-linked-clause-heard g c =
     let p = err_from_is_err_and c.from_residual.result c.from_residual.ensures.1 in
-    rw (p.1, p.2) (heard_stop _ (Compiles c.args.path.now) c.in_err-linked.field-0.0 _ _ c.in_err-linked.ensures.heard)
+    rw (p.1, p.2) (heard_same _ (Compiles c.args.path.now) (BadPackage c.args.path.now) c.in_err-linked.field-0.0 _ _ c.in_err-linked.ensures.heard)
 
 pub returns-in_err-write_files-clause-heard : goal.returns-in_err-write_files-clause-heard
 returns-in_err-write_files-clause-heard g c =
     let p = err_from_is_err_and c.from_residual-in_err-write_files.result c.from_residual-in_err-write_files.ensures.1 in
-    rw (p.1, p.2) (heard_then_none _ (Compiles c.args.path.now) c.in_ok-linked.linked c.in_err-write_files.field-0.0 _ _ _ c.in_err-write_files.ensures.heard.told c.in_err-write_files.ensures.heard.stop c.in_ok-linked.ensures.heard)
+    rw (p.1, p.2) (heard_then_none _ (Compiles c.args.path.now) (BadPackage c.args.path.now) (BadPackage c.args.path.now) c.in_ok-linked.linked c.in_err-write_files.field-0.0 _ _ _ c.in_err-write_files.ensures.heard.told c.in_err-write_files.ensures.heard.stop c.in_ok-linked.ensures.heard)
 
 pub returns-clause-heard : goal.returns-clause-heard
-returns-clause-heard g c = heard_value (Compiles c.args.path.now) (Compiles c.args.path.now) c.in_ok-linked.linked c.in_ok-linked.linked _ _ _ c.in_ok-write_files.ensures.heard.told (λ x h. h) c.in_ok-linked.ensures.heard
+returns-clause-heard g c = heard_value (Compiles c.args.path.now) (Compiles c.args.path.now) (BadPackage c.args.path.now) (BadPackage c.args.path.now) c.in_ok-linked.linked c.in_ok-linked.linked _ _ _ c.in_ok-write_files.ensures.heard.told (λ x h. h) c.in_ok-linked.ensures.heard

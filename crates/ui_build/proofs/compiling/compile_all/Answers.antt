@@ -25,7 +25,7 @@ loop-path-preserved g c =
       on = λ files at sorted few.
           compiled_next files c.args.order.now (state (g.S.Store.told c.args.store.now).files (g.S.Store.told c.args.store.now).asked) (state (g.S.Store.told c.loop-path.store).files (g.S.Store.told c.loop-path.store).asked) (state (g.S.Store.told c.compile.new.store).files (g.S.Store.told c.compile.new.store).asked) c.loop-path.path-index c.path-item.result c.as_str.result.now c.in_ok-compile.field-0
           (omega arith) few here c.in_ok-compile.ensures.does c.in_ok-compile.ensures.stands (c.loop-path.invariant.on files at sorted few);
-      heard = heard.compiled_next c.args.order.now c.loop-path.path-index c.path-item.result c.in_ok-compile.field-0 _ _ _ (omega arith) c.loop-path.invariant.heard (rw here at c.in_ok-compile.ensures.heard);
+      heard = heard.compiled_next _ c.args.order.now c.loop-path.path-index c.path-item.result c.in_ok-compile.field-0 _ _ _ (omega arith) c.loop-path.invariant.heard (rw here at c.in_ok-compile.ensures.heard);
       count = omega (arith, c.in_ok-compile.ensures.cause.later);
     }
 
@@ -46,7 +46,10 @@ returns-clause-does g c =
 pub returns-in_err-compile-clause-heard : goal.returns-in_err-compile-clause-heard
 returns-in_err-compile-clause-heard g c =
     let p = err_from_is_err_and c.from_residual.result c.from_residual.ensures.1 in
-    rw (p.1, p.2) (heard.compiled_stop _ (λ (u : Unit {0}). CompilesAll (map string_bytes c.args.order.now)) c.args.order.now c.loop-path.path-index c.in_err-compile.field-0.0 _ _ _ c.loop-path.invariant.heard c.in_err-compile.ensures.heard)
+    let here = c.as_str.ensures.value ∙ ap string_bytes c.path-item.is in
+    rw (p.1, p.2)
+    (heard.compiled_stop _ (λ (u : Unit {0}). CompilesAll (map string_bytes c.args.order.now)) c.args.order.now c.loop-path.path-index c.path-item.result c.in_err-compile.field-0.0 _ _ _
+    (omega arith) c.loop-path.invariant.heard (rw here at c.in_err-compile.ensures.heard))
 
 pub returns-clause-heard : goal.returns-clause-heard
 returns-clause-heard g c = heard.compiled_last tt c.args.order.now c.loop-path.path-index _ _ (take_all c.loop-path.path-index c.args.order.now (omega arith)) c.loop-path.invariant.heard

@@ -1,4 +1,4 @@
-use Rattle.std.proofs.Common.{◌∙◌, sym, subst, List, [], Ok, Err, true, ◌≡◌}
+use Rattle.std.proofs.Common.{sym, subst, List, [], Ok, Err, true, ◌≡◌}
 use Rattle.std.specs.List.{AllByRecursion}
 use Rattle.std.proofs.lemmas.Result.{err_from_is_err_and}
 use Rattle.ui_base.specs.Paths.{is_path}
@@ -10,7 +10,7 @@ use Rattle.ui_build.specs.Loading.{load_all, judgement}
 use Rattle.ui_build.specs.Views.{imports_of}
 use Rattle.ui_build.specs.Heard.{Compiles}
 use Rattle.ui_build.specs.Stops.{state}
-use Rattle.ui_build.proofs.Hearing.{heard_stop, heard_then_stop, heard_compiled, heard_compile_stop}
+use Rattle.ui_build.proofs.Hearing.{heard_compiled, package_unread, package_unloaded, package_refused}
 use Rattle.ui_build.proofs.Steps.{told_stop, told_then, told_settled}
 use Rattle.ui_build.proofs.compiling.prepare.Goals as goal
 
@@ -54,18 +54,18 @@ returns-clause-does g c =
 pub returns-in_err-form-clause-heard : goal.returns-in_err-form-clause-heard
 returns-in_err-form-clause-heard g c =
     let p = err_from_is_err_and c.from_residual.result c.from_residual.ensures.1 in
-    rw (p.1, p.2) (heard_stop _ (Compiles c.args.path.now) c.in_err-form.field-0.0 _ _ c.in_err-form.ensures.heard)
+    rw (p.1, p.2) (package_unread _ (Compiles c.args.path.now) c.args.path.now c.in_err-form.field-0.0 _ _ c.in_err-form.ensures.heard)
 
 pub returns-in_err-imports-clause-heard : goal.returns-in_err-imports-clause-heard
 returns-in_err-imports-clause-heard g c =
     let p = err_from_is_err_and c.from_residual-in_err-imports.result c.from_residual-in_err-imports.ensures.1 in
-    rw (p.1, p.2) (heard_then_stop _ _ (Compiles c.args.path.now) c.in_ok-form.form c.in_err-imports.field-0.0 _ _ _ c.in_ok-form.ensures.heard c.in_err-imports.ensures.heard)
+    rw (p.1, p.2) (package_unloaded _ (Compiles c.args.path.now) c.args.path.now c.in_ok-form.form c.in_err-imports.field-0.0 _ _ _ c.in_ok-form.ensures.heard (rw c.imports.ensures.paths at c.in_err-imports.ensures.heard))
 
 pub returns-in_err-linked-clause-heard : goal.returns-in_err-linked-clause-heard
 returns-in_err-linked-clause-heard g c =
     let p = err_from_is_err_and c.from_residual-in_err-linked.result c.from_residual-in_err-linked.ensures.1 in
     rw (p.1, p.2)
-    (heard_compile_stop (Compiles c.args.path.now) imports_of c.args.path.now c.in_ok-form.form c.in_ok-imports.imports c.in_err-linked.field-0.0 _ _ _ c.in_err-linked.ensures.settled c.in_ok-form.ensures.heard (rw c.imports.ensures.paths at c.in_ok-imports.ensures.heard))
+    (package_refused (Compiles c.args.path.now) imports_of c.args.path.now c.in_ok-form.form c.in_ok-imports.imports c.in_err-linked.field-0.0 _ _ _ c.in_err-linked.ensures.settled c.in_ok-form.ensures.heard (rw c.imports.ensures.paths at c.in_ok-imports.ensures.heard))
 
 pub returns-clause-heard : goal.returns-clause-heard
 returns-clause-heard g c =

@@ -1,7 +1,7 @@
 use Rattle.std.proofs.Common.{refl, arith}
 use Rattle.std.proofs.lemmas.Grind.{common_steps}
 use Rattle.std.proofs.lemmas.Result.{err_from_is_err_and}
-use Rattle.ui_build.specs.Plan.{Put, Entry}
+use Rattle.ui_build.specs.Plan.{Put}
 use Rattle.ui_build.specs.Package.{unit_file, linked_file}
 use Rattle.ui_build.specs.Build.{write_files}
 use Rattle.ui_build.specs.Stops.{state, IsFileOf}

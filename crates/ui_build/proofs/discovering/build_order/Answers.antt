@@ -1,4 +1,4 @@
-use Rattle.std.proofs.Common.{refl, suc, Ok, Err}
+use Rattle.std.proofs.Common.{suc, Ok, Err}
 use Rattle.std.proofs.lemmas.Result.{err_from_is_err_and}
 use Rattle.std.specs.Prelude.{String, Vec}
 use Rattle.std.specs.declared.alloc.Global.{Global}
@@ -6,10 +6,9 @@ use Rattle.ui_order.specs.Found.{Found, begun}
 use Rattle.ui_order.specs.Tables.{texts}
 use Rattle.ui_build.specs.Plan.{settled}
 use Rattle.ui_build.specs.Build.{discover, ordered, package_limit}
-use Rattle.ui_build.specs.Heard.{Anything}
+use Rattle.ui_build.specs.Heard.{FindsOrder}
 use Rattle.ui_build.specs.Stops.{state}
-use Rattle.ui_build.proofs.Anything.{cycle_stopped}
-use Rattle.ui_build.proofs.Hearing.{heard_stop, heard_settled, heard_value}
+use Rattle.ui_build.proofs.HearingFound.{order_unfound, order_none, order_found}
 use Rattle.ui_build.proofs.Steps.{told_stop, told_settled}
 use Rattle.ui_build.proofs.discovering.build_order.Goals as goal
 
@@ -35,12 +34,12 @@ returns-clause-does g c =
 pub returns-in_err-discovery-clause-heard : goal.returns-in_err-discovery-clause-heard
 returns-in_err-discovery-clause-heard g c =
     let p = err_from_is_err_and c.from_residual.result c.from_residual.ensures.1 in
-    rw (p.1, p.2) (heard_stop _ (λ (v : Vec (String Global) Global). Anything v) c.in_err-discovery.field-0.0 _ _ c.in_err-discovery.ensures.heard)
+    rw (p.1, p.2) (order_unfound _ (λ (v : Vec (String Global) Global). FindsOrder c.args.root.now (texts v)) c.args.root.now c.in_err-discovery.field-0.0 _ _ c.in_err-discovery.ensures.heard)
 
 pub returns-in_err-order-clause-heard : goal.returns-in_err-order-clause-heard
 returns-in_err-order-clause-heard g c =
     let p = err_from_is_err_and c.from_residual-in_err-order.result c.from_residual-in_err-order.ensures.1 in
-    rw (p.1, p.2) (heard_settled _ (λ (v : Vec (String Global) Global). Anything v) c.in_ok-discovery.discovery c.in_err-order.field-0.0 _ _ (λ h _. cycle_stopped c.in_ok-discovery.discovery.read c.in_err-order.field-0.0 h c.in_err-order.ensures) c.in_ok-discovery.ensures.heard)
+    rw (p.1, p.2) (order_none (λ (v : Vec (String Global) Global). FindsOrder c.args.root.now (texts v)) c.args.root.now c.in_ok-discovery.discovery c.in_err-order.field-0.0 _ _ c.in_ok-discovery.ensures.heard c.in_err-order.ensures)
 
 pub returns-clause-heard : goal.returns-clause-heard
-returns-clause-heard g c = heard_value _ (λ (v : Vec (String Global) Global). Anything v) c.in_ok-discovery.discovery c.in_ok-order.order _ _ _ refl (λ _ _. tt) c.in_ok-discovery.ensures.heard
+returns-clause-heard g c = order_found texts c.args.root.now c.in_ok-discovery.discovery c.in_ok-order.order _ _ c.in_ok-discovery.ensures.heard c.in_ok-order.ensures

@@ -1,13 +1,14 @@
-use Rattle.std.proofs.Common.{◌≡◌, ◌∙◌, ◌-◌, ◌+◌, ap, sym, subst, refl, suc, [], arith, option_map, string_bytes, Some}
+use Rattle.std.proofs.Common.{◌≡◌, ◌∙◌, ◌-◌, ◌+◌, ap, sym, subst, refl, suc, arith, option_map, string_bytes, Some}
 use Rattle.std.proofs.lemmas.Result.{err_from_is_err_and}
-use Rattle.ui_store.specs.Told.{more_none}
 use Rattle.ui_order.specs.Found.{Found, IsFound, begun, least_unread}
 use Rattle.ui_build.specs.Build.{discover, package_limit}
-use Rattle.ui_build.specs.Heard.{Anything}
+use Rattle.ui_build.specs.Heard.{FindsAll}
+use Rattle.ui_build.specs.Refused.{LacksPackages}
 use Rattle.ui_build.specs.Stops.{state}
 use Rattle.ui_build.specs.declared.stop.Refusal.TheVariants as told
 use Rattle.ui_build.specs.declared.stop.Stop.TheVariants as stop
-use Rattle.ui_build.proofs.Hearing.{heard_none, heard_then, heard_then_none, heard_then_stop, heard_settled, heard_value}
+use Rattle.ui_build.proofs.HearingFound.{turned_none, turned_more, turned_stop, turned_memory, turned_all, over}
+use Rattle.ui_build.proofs.Hearing.{heard_none}
 use Rattle.ui_build.proofs.Steps.{told_none}
 use Rattle.ui_build.proofs.Finding.{finds_first, finds_next, finds_stop, finds_none, finds_all, finds_over, finds_turns, left_at, left_next}
 use Rattle.ui_build.proofs.discovering.discover.Goals as goal
@@ -24,7 +25,7 @@ loop-turn-init g c =
       rest = finds_first c.args.root.now (state (g.S.Store.told c.args.store.now).files (g.S.Store.told c.args.store.now).asked) c.in_ok-discovery.discovery c.in_ok-discovery.ensures;
       same = refl;
       count = omega arith;
-      heard = record { heard = []; told = sym (more_none (g.S.Store.told c.args.store.now).heard); ends = tt };
+      heard = turned_none c.args.root.now c.in_ok-discovery.discovery (g.S.Store.told c.args.store.now).heard c.in_ok-discovery.ensures;
       found = subst P (sym c.in_ok-discovery.ensures) (c.discovery_keeps.ensures.begins c.args.root.now);
     }
 
@@ -41,7 +42,7 @@ loop-turn-preserved g c =
           unread c.in_ok-more-in-Some.ensures.files (finds_turns c.args.root.now initial (1025 - i) (suc (1024 - i)) c.loop-turn.discovery now (left_at i (omega (arith, c.loop-turn-test.true))) c.loop-turn.invariant.rest) c.in_ok-more-in-Some.ensures.does);
       same = c.in_ok-more-in-Some.ensures.files ∙ c.loop-turn.invariant.same;
       count = omega (arith, c.in_ok-more-in-Some.ensures.cause.later);
-      heard = heard_then (λ (u : Unit {0}) _. Unit {0}) _ (λ (u : Unit {0}) _. Unit {0}) tt c.in_ok-more-in-Some.more tt _ _ _ (λ _ _ _ _. tt) c.loop-turn.invariant.heard c.in_ok-more-in-Some.ensures.heard;
+      heard = turned_more c.args.root.now i c.loop-turn.discovery c.in_ok-more-in-Some.more (string_bytes c.in-Some.path) _ _ _ unread c.loop-turn.invariant.heard c.in_ok-more-in-Some.ensures.heard;
       found = c.in_ok-more-in-Some.ensures.found c.args.root.now c.loop-turn.invariant.found;
     }
 
@@ -75,20 +76,23 @@ returns-clause-does g c =
 pub returns-in_err-discovery-clause-heard : goal.returns-in_err-discovery-clause-heard
 returns-in_err-discovery-clause-heard g c =
     let p = err_from_is_err_and c.from_residual.result c.from_residual.ensures.1 in
-    rw (p.1, p.2) (heard_none (λ (d : Found). Anything d) stop.NoMemory _ _ refl tt)
+    rw (p.1, p.2) (heard_none (FindsAll c.args.root.now) (LacksPackages c.args.root.now) stop.NoMemory _ _ refl tt)
 
 pub returns-in_err-next_path-clause-heard : goal.returns-in_err-next_path-clause-heard
 returns-in_err-next_path-clause-heard g c =
     let p = err_from_is_err_and c.from_residual-in_err-next_path.result c.from_residual-in_err-next_path.ensures.1 in
-    rw (p.1, p.2) (heard_then_none (λ (u : Unit {0}) _. Unit {0}) (λ (d : Found). Anything d) tt stop.NoMemory _ _ _ refl tt c.loop-turn.invariant.heard)
+    rw (p.1, p.2) (turned_memory (FindsAll c.args.root.now) c.args.root.now c.loop-turn._turn c.loop-turn.discovery _ _ c.loop-turn.invariant.heard)
 
 pub returns-in-None-clause-heard : goal.returns-in-None-clause-heard
-returns-in-None-clause-heard g c = heard_value (λ (u : Unit {0}) _. Unit {0}) (λ (d : Found). Anything d) tt c.loop-turn.discovery _ _ _ refl (λ _ _. tt) c.loop-turn.invariant.heard
+returns-in-None-clause-heard g c = turned_all c.args.root.now c.loop-turn._turn c.loop-turn.discovery _ _ (sym (sym (ap (option_map string_bytes) c.in-None.is) ∙ c.in_ok-next_path.ensures)) c.loop-turn.invariant.heard
 
 pub returns-in_err-more-in-Some-clause-heard : goal.returns-in_err-more-in-Some-clause-heard
 returns-in_err-more-in-Some-clause-heard g c =
     let p = err_from_is_err_and c.from_residual-in_err-more-in-Some.result c.from_residual-in_err-more-in-Some.ensures.1 in
-    rw (p.1, p.2) (heard_then_stop (λ (u : Unit {0}) _. Unit {0}) _ (λ (d : Found). Anything d) tt c.in_err-more-in-Some.field-0.0 _ _ _ c.loop-turn.invariant.heard c.in_err-more-in-Some.ensures.heard)
+    rw (p.1, p.2)
+    (turned_stop _ (FindsAll c.args.root.now) c.args.root.now c.loop-turn._turn c.loop-turn.discovery (string_bytes c.in-Some.path) c.in_err-more-in-Some.field-0.0 _ _ _
+    (sym (sym (ap (option_map string_bytes) c.in-Some.is) ∙ c.in_ok-next_path.ensures)) c.loop-turn.invariant.heard c.in_err-more-in-Some.ensures.heard)
 
 pub returns-clause-heard : goal.returns-clause-heard
-returns-clause-heard g c = heard_settled (λ (u : Unit {0}) _. Unit {0}) (λ (d : Found). Anything d) tt (stop.Refused told.TooMany) _ _ (λ _ _. tt) c.loop-turn.invariant.heard
+returns-clause-heard g c =
+    over (FindsAll c.args.root.now) c.discovery_keeps.ensures.begins c.discovery_keeps.ensures.keeps c.discovery_keeps.ensures.reads c.args.root.now c.loop-turn._turn c.loop-turn.discovery (stop.Refused told.TooMany) _ _ (omega (arith, c.loop-turn-test.false)) c.loop-turn.invariant.heard

@@ -1,6 +1,6 @@
-use Rattle.std.proofs.Common.{◌≡◌, ◌≤◌, ◌-◌, Ok}
+use Rattle.std.proofs.Common.{◌≡◌, ◌≤◌, ◌-◌}
 use Rattle.ui_order.specs.Found.{IsFound}
-use Rattle.ui_build.specs.Heard.{HearsIn}
+use Rattle.ui_build.proofs.HearingFound.{Turned}
 use Rattle.ui_build.specs.Stops.{state}
 use Rattle.ui_build.proofs.Finding.{Finds}
 use Rattle.ui_build.proofs.discovering.discover.Given as goal
@@ -10,6 +10,6 @@ invariant-loop-turn g l = record {
   rest : Finds l.root (state (g.S.Store.told l.initial.store).files (g.S.Store.told l.initial.store).asked) (1025 - l._turn) l.discovery (state (g.S.Store.told l.store).files (g.S.Store.told l.store).asked);
   same : (g.S.Store.told l.store).files ≡ (g.S.Store.told l.initial.store).files;
   count : (g.S.Store.told l.initial.store).faults ≤ (g.S.Store.told l.store).faults;
-  heard : HearsIn {X = Unit {0}} (λ _ _. Unit {0}) (g.S.Store.told l.initial.store).heard (g.S.Store.told l.store).heard (Ok tt);
+  heard : Turned l.root l._turn l.discovery (g.S.Store.told l.initial.store).heard (g.S.Store.told l.store).heard;
   found : IsFound l.root l.discovery;
 }

@@ -1,14 +1,13 @@
-use Rattle.std.proofs.Common.{refl, sym, subst, Ok, Err, string_bytes}
+use Rattle.std.proofs.Common.{sym, subst, Ok, Err, string_bytes}
 use Rattle.std.proofs.lemmas.Result.{err_from_is_err_and}
 use Rattle.ui_order.specs.Found.{Found, IsFound, with_imports}
 use Rattle.ui_build.specs.Package.{folder, find, imports_in}
 use Rattle.ui_build.specs.Plan.{settled}
 use Rattle.ui_build.specs.Build.{within_limit}
 use Rattle.ui_build.specs.Sources.{sources_of}
-use Rattle.ui_build.specs.Heard.{Anything}
+use Rattle.ui_build.specs.Heard.{FindsOne}
 use Rattle.ui_build.specs.Stops.{state}
-use Rattle.ui_build.proofs.Anything.{many_stopped}
-use Rattle.ui_build.proofs.Hearing.{heard_stop, heard_settled, heard_value}
+use Rattle.ui_build.proofs.HearingFound.{one_unfound, one_too_many, one_found}
 use Rattle.ui_build.proofs.Steps.{told_stop, told_settled}
 use Rattle.ui_build.proofs.discovering.discover_one.Goals as goal
 
@@ -39,12 +38,13 @@ returns-clause-found g c = λ root known. let P : Found → Type 0 = IsFound roo
 pub returns-in_err-sources-clause-heard : goal.returns-in_err-sources-clause-heard
 returns-in_err-sources-clause-heard g c =
     let p = err_from_is_err_and c.from_residual.result c.from_residual.ensures.1 in
-    rw (p.1, p.2) (heard_stop _ (λ (x : Found). Anything x) c.in_err-sources.field-0.0 _ _ c.in_err-sources.ensures.heard)
+    rw (p.1, p.2) (one_unfound _ (FindsOne c.args.discovery (string_bytes c.args.path)) c.args.discovery (string_bytes c.args.path) c.in_err-sources.field-0.0 _ _ (rw c.as_str.ensures.value at c.in_err-sources.ensures.heard))
 
 pub returns-in_err-more-clause-heard : goal.returns-in_err-more-clause-heard
 returns-in_err-more-clause-heard g c =
     let p = err_from_is_err_and c.from_residual-in_err-more.result c.from_residual-in_err-more.ensures.1 in
-    rw (p.1, p.2) (heard_settled _ (λ (x : Found). Anything x) c.in_ok-sources.sources c.in_err-more.field-0.0 _ _ (λ h _. many_stopped _ c.in_err-more.field-0.0 h c.in_err-more.ensures.settled) c.in_ok-sources.ensures.heard)
+    rw (p.1, p.2) (one_too_many (FindsOne c.args.discovery (string_bytes c.args.path)) c.args.discovery (string_bytes c.args.path) c.in_ok-sources.sources c.in_err-more.field-0.0 _ _ (rw c.as_str.ensures.value at c.in_ok-sources.ensures.heard) (rw c.deref.ensures.value at c.in_err-more.ensures.settled))
 
 pub returns-clause-heard : goal.returns-clause-heard
-returns-clause-heard g c = heard_value _ (λ (x : Found). Anything x) c.in_ok-sources.sources c.in_ok-more.more _ _ _ refl (λ _ _. tt) c.in_ok-sources.ensures.heard
+returns-clause-heard g c =
+    one_found c.args.discovery (string_bytes c.args.path) c.in_ok-sources.sources c.in_ok-more.more _ _ (rw c.as_str.ensures.value at c.in_ok-sources.ensures.heard) (rw c.deref.ensures.value at c.in_ok-more.ensures.settled)

@@ -6,6 +6,7 @@ use Rattle.ui_build.specs.Package.{read_as}
 use Rattle.ui_build.proofs.Steps.{told_maybe}
 use Rattle.std.proofs.Common.{Option}
 use Rattle.ui_build.specs.Heard.{HasRead}
+use Rattle.ui_build.specs.Refused.{LacksFile}
 use Rattle.ui_build.specs.declared.stop.Stop.TheVariants as stop
 use Rattle.ui_build.proofs.Hearing.{heard_none}
 use Rattle.ui_build.proofs.files.read_file.Goals as goal
@@ -16,7 +17,7 @@ returns-in-Err-NoMemory-clause-does g c =
     (rw (c.as_str.ensures.value, c.in-Err-NoMemory.field-0-is) at c.in-Err-NoMemory.ensures.asked)
 
 pub returns-in-Err-Failed-clause-heard : goal.returns-in-Err-Failed-clause-heard
-returns-in-Err-Failed-clause-heard g c = heard_none (λ (o : Option (Vec ℕ Global)). HasRead (string_bytes c.args.name, option_map (λ v. v.items) o)) (stop.ReadFault c.args.name) _ _ (rw c.in-Err-Failed.field-0-is at c.in-Err-Failed.ensures.heard) tt
+returns-in-Err-Failed-clause-heard g c = heard_none (λ (o : Option (Vec ℕ Global)). HasRead (string_bytes c.args.name, option_map (λ v. v.items) o)) (LacksFile (string_bytes c.args.name)) (stop.ReadFault c.args.name) _ _ (rw c.in-Err-Failed.field-0-is at c.in-Err-Failed.ensures.heard) tt
 
 pub returns-in-Err-NoMemory-clause-heard : goal.returns-in-Err-NoMemory-clause-heard
-returns-in-Err-NoMemory-clause-heard g c = heard_none (λ (o : Option (Vec ℕ Global)). HasRead (string_bytes c.args.name, option_map (λ v. v.items) o)) stop.NoMemory _ _ (rw c.in-Err-NoMemory.field-0-is at c.in-Err-NoMemory.ensures.heard) tt
+returns-in-Err-NoMemory-clause-heard g c = heard_none (λ (o : Option (Vec ℕ Global)). HasRead (string_bytes c.args.name, option_map (λ v. v.items) o)) (LacksFile (string_bytes c.args.name)) stop.NoMemory _ _ (rw c.in-Err-NoMemory.field-0-is at c.in-Err-NoMemory.ensures.heard) tt

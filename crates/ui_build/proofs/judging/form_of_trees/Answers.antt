@@ -1,4 +1,4 @@
-use Rattle.std.proofs.Common.{◌≡◌, ◌∙◌, ap, sym, map, Result, Ok, Err}
+use Rattle.std.proofs.Common.{◌≡◌, ◌∙◌, ap, sym, map, Result, Err}
 use Rattle.ui_base.specs.declared.value.Pos.{Pos}
 use Rattle.ui_forms.specs.Form as forms
 use Rattle.ui_build.specs.Package.{or_form}

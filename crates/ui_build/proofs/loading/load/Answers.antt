@@ -6,10 +6,11 @@ use Rattle.ui_build.specs.Plan.{settled}
 use Rattle.ui_build.specs.Loading.{recorded, load}
 use Rattle.ui_build.specs.Views.{loaded_of}
 use Rattle.ui_build.specs.Heard.{HasRead, Loads}
+use Rattle.ui_build.specs.Refused.{LacksFile, BadLinked}
 use Rattle.ui_build.specs.Stops.{state, SettlesStop}
 use Rattle.ui_build.specs.declared.loading.Loaded.{Loaded}
 use Rattle.ui_build.specs.declared.stop.Stop.TheVariants as stop
-use Rattle.ui_build.proofs.Hearing.{heard_none, heard_stop, heard_settled, heard_value, linked_stopped, loads}
+use Rattle.ui_build.proofs.Hearing.{heard_none, heard_value, linked_unread, linked_bad, loads}
 use Rattle.ui_build.proofs.Dumped.{record_stop}
 use Rattle.ui_build.proofs.Steps.{told_none, told_stop, told_settled}
 use Rattle.ui_build.proofs.loading.load.Goals as goal
@@ -48,29 +49,29 @@ returns-clause-does g c =
 pub returns-in_err-linked-clause-heard : goal.returns-in_err-linked-clause-heard
 returns-in_err-linked-clause-heard g c =
     let p = err_from_is_err_and c.from_residual.result c.from_residual.ensures.1 in
-    rw (p.1, p.2) (heard_none (λ (l : Loaded). Loads c.args.path.now (loaded_of l)) stop.NoMemory _ _ refl tt)
+    rw (p.1, p.2) (heard_none (λ (l : Loaded). Loads c.args.path.now (loaded_of l)) (BadLinked c.args.path.now) stop.NoMemory _ _ refl tt)
 
 pub returns-in_err-asked-clause-heard : goal.returns-in_err-asked-clause-heard
 returns-in_err-asked-clause-heard g c =
     let p = err_from_is_err_and c.from_residual-in_err-asked.result c.from_residual-in_err-asked.ensures.1 in
-    rw (p.1, p.2) (heard_none (λ (l : Loaded). Loads c.args.path.now (loaded_of l)) stop.NoMemory _ _ refl tt)
+    rw (p.1, p.2) (heard_none (λ (l : Loaded). Loads c.args.path.now (loaded_of l)) (BadLinked c.args.path.now) stop.NoMemory _ _ refl tt)
 
 pub returns-in_err-bytes-clause-heard : goal.returns-in_err-bytes-clause-heard
 returns-in_err-bytes-clause-heard g c =
     let p = err_from_is_err_and c.from_residual-in_err-bytes.result c.from_residual-in_err-bytes.ensures.1 in
-    rw (p.1, p.2) (heard_stop _ (λ (l : Loaded). Loads c.args.path.now (loaded_of l)) c.in_err-bytes.field-0.0 _ _ c.in_err-bytes.ensures.heard)
+    rw (p.1, p.2) (linked_unread _ (λ (l : Loaded). Loads c.args.path.now (loaded_of l)) c.args.path.now c.in_err-bytes.field-0.0 _ _ (rw (c.in_ok-asked.ensures, c.in_ok-linked.ensures) at c.in_err-bytes.ensures.heard))
 
 pub returns-in_err-loaded-clause-heard : goal.returns-in_err-loaded-clause-heard
 returns-in_err-loaded-clause-heard g c =
     let p = err_from_is_err_and c.from_residual-in_err-loaded.result c.from_residual-in_err-loaded.ensures.1 in
     let settled : SettlesStop (recorded (linked_file c.args.path.now) c.args.path.now (option_map (λ (v : Vec ℕ Global). v.items) c.in_ok-bytes.bytes)) c.in_err-loaded.field-0.0 = rw c.in_ok-linked.ensures at c.in_err-loaded.ensures.settled in
     rw (p.1, p.2)
-    (heard_settled (λ (o : Option (Vec ℕ Global)). HasRead (linked_file c.args.path.now, option_map (λ v. v.items) o)) (λ (l : Loaded). Loads c.args.path.now (loaded_of l)) c.in_ok-bytes.bytes c.in_err-loaded.field-0.0 _ _ (λ x r. linked_stopped c.args.path.now (option_map (λ (v : Vec ℕ Global). v.items) c.in_ok-bytes.bytes) x c.in_err-loaded.field-0.0 settled r) (rw (c.in_ok-asked.ensures, c.in_ok-linked.ensures) at c.in_ok-bytes.ensures.heard))
+    (linked_bad (λ (l : Loaded). Loads c.args.path.now (loaded_of l)) c.args.path.now c.in_ok-bytes.bytes c.in_err-loaded.field-0.0 _ _ (rw (c.in_ok-asked.ensures, c.in_ok-linked.ensures) at c.in_ok-bytes.ensures.heard) settled)
 
 pub returns-clause-heard : goal.returns-clause-heard
 returns-clause-heard g c =
     let stands : recorded (linked_file c.args.path.now) c.args.path.now (option_map (λ (v : Vec ℕ Global). v.items) c.in_ok-bytes.bytes) ≡ Ok (loaded_of c.in_ok-loaded.loaded) = rw c.in_ok-linked.ensures at c.in_ok-loaded.ensures.settled in
-    heard_value (λ (o : Option (Vec ℕ Global)). HasRead (linked_file c.args.path.now, option_map (λ v. v.items) o)) (λ (l : Loaded). Loads c.args.path.now (loaded_of l)) c.in_ok-bytes.bytes c.in_ok-loaded.loaded _ _ _ refl (λ x r. loads c.args.path.now (option_map (λ (v : Vec ℕ Global). v.items) c.in_ok-bytes.bytes) (loaded_of c.in_ok-loaded.loaded) x stands r) (rw (c.in_ok-asked.ensures, c.in_ok-linked.ensures) at c.in_ok-bytes.ensures.heard)
+    heard_value (λ (o : Option (Vec ℕ Global)). HasRead (linked_file c.args.path.now, option_map (λ v. v.items) o)) (λ (l : Loaded). Loads c.args.path.now (loaded_of l)) (LacksFile (linked_file c.args.path.now)) (BadLinked c.args.path.now) c.in_ok-bytes.bytes c.in_ok-loaded.loaded _ _ _ refl (λ x r. loads c.args.path.now (option_map (λ (v : Vec ℕ Global). v.items) c.in_ok-bytes.bytes) (loaded_of c.in_ok-loaded.loaded) x stands r) (rw (c.in_ok-asked.ensures, c.in_ok-linked.ensures) at c.in_ok-bytes.ensures.heard)
 
 pub returns-in_err-loaded-clause-stop : goal.returns-in_err-loaded-clause-stop
 returns-in_err-loaded-clause-stop g c =

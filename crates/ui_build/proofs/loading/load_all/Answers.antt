@@ -3,6 +3,7 @@ use Rattle.std.proofs.lemmas.Result.{err_from_is_err_and}
 use Rattle.ui_base.specs.Paths.{is_path}
 use Rattle.std.proofs.lemmas.List.{take_all}
 use Rattle.ui_build.specs.Heard.{LoadsImports}
+use Rattle.ui_build.specs.Refused.{BadImports}
 use Rattle.ui_build.specs.Views.{loaded_of, imports_of}
 use Rattle.ui_build.specs.declared.loading.Imports.{Imports}
 use Rattle.ui_build.proofs.Hearing.{loaded_first, loaded_next, loaded_stop, loaded_none, loaded_last}
@@ -56,7 +57,7 @@ loop-path-preserved g c =
       count = omega (arith, c.in_ok-loaded.ensures.cause.later);
       paths = path_more c.args.paths.now c.loop-path.path-index c.path-item.result files l.linked (omega arith) c.loop-path.invariant.paths (c.in_ok-loaded.ensures.own ∙ here);
       paired = paired_more files prints l.linked l.print c.loop-path.invariant.paired;
-      heard = loaded_next loaded_of c.args.paths.now c.loop-path.path-index c.path-item.result (files, prints) l _ _ _ (omega arith) c.loop-path.invariant.heard (rw here at c.in_ok-loaded.ensures.heard);
+      heard = loaded_next loaded_of _ c.args.paths.now c.loop-path.path-index c.path-item.result (files, prints) l _ _ _ (omega arith) c.loop-path.invariant.heard (rw here at c.in_ok-loaded.ensures.heard);
       sound = sound_more files prints l.linked l.print c.loop-path.invariant.paired c.loop-path.invariant.sound c.in_ok-loaded.ensures.listed valid c.has_eight.ensures;
     })
 
@@ -67,23 +68,26 @@ returns-clause-does g c =
 pub returns-in_err-loaded-clause-heard : goal.returns-in_err-loaded-clause-heard
 returns-in_err-loaded-clause-heard g c =
     let p = err_from_is_err_and c.from_residual.result c.from_residual.ensures.1 in
-    rw (p.1, p.2) (loaded_stop _ (λ (i : Imports). LoadsImports (map string_bytes c.args.paths.now) (imports_of i)) c.args.paths.now c.loop-path.path-index (c.loop-path.files.items, c.loop-path.prints.items) c.in_err-loaded.field-0.0 _ _ _ c.loop-path.invariant.heard c.in_err-loaded.ensures.heard)
+    let there = c.as_str.ensures.value ∙ ap string_bytes c.path-item.is in
+    rw (p.1, p.2)
+    (loaded_stop _ (λ (i : Imports). LoadsImports (map string_bytes c.args.paths.now) (imports_of i)) c.args.paths.now c.loop-path.path-index c.path-item.result (c.loop-path.files.items, c.loop-path.prints.items) c.in_err-loaded.field-0.0 _ _ _
+    (omega arith) c.loop-path.invariant.heard (rw there at c.in_err-loaded.ensures.heard))
 
 pub returns-in_err-push-clause-heard : goal.returns-in_err-push-clause-heard
 returns-in_err-push-clause-heard g c =
     let p = err_from_is_err_and c.from_residual-in_err-push.result c.from_residual-in_err-push.ensures.1 in
     let there = c.as_str.ensures.value ∙ ap string_bytes c.path-item.is in
     rw (p.1, p.2)
-    (loaded_none (λ (i : Imports). LoadsImports (map string_bytes c.args.paths.now) (imports_of i)) c.args.paths.now (c.loop-path.path-index + 1) _ (g.S.Store.told c.args.store.now).heard _
-    (loaded_next loaded_of c.args.paths.now c.loop-path.path-index c.path-item.result (c.loop-path.files.items, c.loop-path.prints.items) c.in_ok-loaded.loaded _ _ _ (omega arith) c.loop-path.invariant.heard (rw there at c.in_ok-loaded.ensures.heard)))
+    (loaded_none (λ (i : Imports). LoadsImports (map string_bytes c.args.paths.now) (imports_of i)) (BadImports (map string_bytes c.args.paths.now)) c.args.paths.now (c.loop-path.path-index + 1) _ (g.S.Store.told c.args.store.now).heard _
+    (loaded_next loaded_of _ c.args.paths.now c.loop-path.path-index c.path-item.result (c.loop-path.files.items, c.loop-path.prints.items) c.in_ok-loaded.loaded _ _ _ (omega arith) c.loop-path.invariant.heard (rw there at c.in_ok-loaded.ensures.heard)))
 
 pub returns-in_err-push-2-clause-heard : goal.returns-in_err-push-2-clause-heard
 returns-in_err-push-2-clause-heard g c =
     let p = err_from_is_err_and c.from_residual-in_err-push-2.result c.from_residual-in_err-push-2.ensures.1 in
     let there = c.as_str.ensures.value ∙ ap string_bytes c.path-item.is in
     rw (p.1, p.2)
-    (loaded_none (λ (i : Imports). LoadsImports (map string_bytes c.args.paths.now) (imports_of i)) c.args.paths.now (c.loop-path.path-index + 1) _ (g.S.Store.told c.args.store.now).heard _
-    (loaded_next loaded_of c.args.paths.now c.loop-path.path-index c.path-item.result (c.loop-path.files.items, c.loop-path.prints.items) c.in_ok-loaded.loaded _ _ _ (omega arith) c.loop-path.invariant.heard (rw there at c.in_ok-loaded.ensures.heard)))
+    (loaded_none (λ (i : Imports). LoadsImports (map string_bytes c.args.paths.now) (imports_of i)) (BadImports (map string_bytes c.args.paths.now)) c.args.paths.now (c.loop-path.path-index + 1) _ (g.S.Store.told c.args.store.now).heard _
+    (loaded_next loaded_of _ c.args.paths.now c.loop-path.path-index c.path-item.result (c.loop-path.files.items, c.loop-path.prints.items) c.in_ok-loaded.loaded _ _ _ (omega arith) c.loop-path.invariant.heard (rw there at c.in_ok-loaded.ensures.heard)))
 
 pub returns-clause-heard : goal.returns-clause-heard
 returns-clause-heard g c =

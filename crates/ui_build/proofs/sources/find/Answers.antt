@@ -4,7 +4,7 @@ use Rattle.std.proofs.lemmas.Grind.{common_steps}
 use Rattle.std.proofs.lemmas.Result.{err_from_is_err_and}
 use Rattle.ui_store.specs.Files.{texts}
 use Rattle.ui_build.specs.Plan.{NoFile, Plan, ◌>>=◌}
-use Rattle.ui_sources.specs.Sources.{Source, source_of}
+use Rattle.ui_sources.specs.Sources.{Source}
 use Rattle.ui_build.specs.Package.{folder, list_folder, read_sources, some_source, is_source, find}
 use Rattle.ui_build.specs.Sources.{sources_of}
 use Rattle.ui_build.specs.Stops.{state, DoesSeen}
@@ -15,8 +15,9 @@ use Rattle.ui_build.proofs.Steps.{told_none, told_stop, told_then, told_done, to
 use Rattle.std.specs.Prelude.{String, Vec}
 use Rattle.std.specs.declared.alloc.Global.{Global}
 use Rattle.ui_build.specs.Heard.{HasListed, ReadsSources, FindsSources}
+use Rattle.ui_build.specs.Refused.{LacksFolder, LacksSource, LacksSources}
 use Rattle.ui_sources.specs.declared.source.Source.{Source as InMemory}
-use Rattle.ui_build.proofs.Hearing.{heard_none, heard_stop, heard_then, heard_then_stop, heard_empty, finds}
+use Rattle.ui_build.proofs.Hearing.{heard_none, heard_then, find_unlisted, find_unread, find_empty, finds}
 use Rattle.ui_build.proofs.sources.find.Goals as goal
 
 pub returns-in_err-folder-clause-does : goal.returns-in_err-folder-clause-does
@@ -72,30 +73,32 @@ returns-clause-does g c =
 pub returns-in_err-folder-clause-heard : goal.returns-in_err-folder-clause-heard
 returns-in_err-folder-clause-heard g c =
     let p = err_from_is_err_and c.from_residual.result c.from_residual.ensures.1 in
-    rw (p.1, p.2) (heard_none (λ (v : Vec InMemory Global). FindsSources (folder c.args.path.now) (sources_of v)) stop.NoMemory _ _ refl tt)
+    rw (p.1, p.2) (heard_none (λ (v : Vec InMemory Global). FindsSources (folder c.args.path.now) (sources_of v)) (LacksSources (folder c.args.path.now)) stop.NoMemory _ _ refl tt)
 
 pub returns-in_err-asked-clause-heard : goal.returns-in_err-asked-clause-heard
 returns-in_err-asked-clause-heard g c =
     let p = err_from_is_err_and c.from_residual-in_err-asked.result c.from_residual-in_err-asked.ensures.1 in
-    rw (p.1, p.2) (heard_none (λ (v : Vec InMemory Global). FindsSources (folder c.args.path.now) (sources_of v)) stop.NoMemory _ _ refl tt)
+    rw (p.1, p.2) (heard_none (λ (v : Vec InMemory Global). FindsSources (folder c.args.path.now) (sources_of v)) (LacksSources (folder c.args.path.now)) stop.NoMemory _ _ refl tt)
 
 pub returns-in_err-names-clause-heard : goal.returns-in_err-names-clause-heard
 returns-in_err-names-clause-heard g c =
     let p = err_from_is_err_and c.from_residual-in_err-names.result c.from_residual-in_err-names.ensures.1 in
-    rw (p.1, p.2) (heard_stop _ (λ (v : Vec InMemory Global). FindsSources (folder c.args.path.now) (sources_of v)) c.in_err-names.field-0.0 _ _ c.in_err-names.ensures.heard)
+    rw (p.1, p.2) (find_unlisted _ (λ (v : Vec InMemory Global). FindsSources (folder c.args.path.now) (sources_of v)) (folder c.args.path.now) c.in_err-names.field-0.0 _ _ (rw (c.in_ok-asked.ensures, c.in_ok-folder.ensures) at c.in_err-names.ensures.heard))
 
 pub returns-in_err-sources-clause-heard : goal.returns-in_err-sources-clause-heard
 returns-in_err-sources-clause-heard g c =
     let p = err_from_is_err_and c.from_residual-in_err-sources.result c.from_residual-in_err-sources.ensures.1 in
-    rw (p.1, p.2) (heard_then_stop _ _ (λ (v : Vec InMemory Global). FindsSources (folder c.args.path.now) (sources_of v)) c.in_ok-names.names c.in_err-sources.field-0.0 _ _ _ c.in_ok-names.ensures.heard c.in_err-sources.ensures.heard)
+    rw (p.1, p.2)
+    (find_unread (λ (v : Vec InMemory Global). ReadsSources (folder c.args.path.now) (filter is_source (texts c.in_ok-names.names)) (sources_of v)) (λ (v : Vec InMemory Global). FindsSources (folder c.args.path.now) (sources_of v)) (folder c.args.path.now) c.in_ok-names.names c.in_err-sources.field-0.0 _ _ _
+    (rw (c.in_ok-asked.ensures, c.in_ok-folder.ensures) at c.in_ok-names.ensures.heard) (rw (c.as_str.ensures.value, c.in_ok-folder.ensures, c.deref.ensures.value) at c.in_err-sources.ensures.heard))
 
 pub returns-then-is_empty-clause-heard : goal.returns-then-is_empty-clause-heard
 returns-then-is_empty-clause-heard g c =
     let none : length c.in_ok-sources.sources.items ≡ 0 = grind (arith, common_steps) in
-    heard_empty (λ (v : Vec InMemory Global). FindsSources (folder c.args.path.now) (sources_of v)) (folder c.args.path.now) c.in_ok-folder.folder c.in_ok-names.names c.in_ok-sources.sources _ _ _ c.in_ok-folder.ensures none
+    find_empty (λ (v : Vec InMemory Global). FindsSources (folder c.args.path.now) (sources_of v)) (folder c.args.path.now) c.in_ok-folder.folder c.in_ok-names.names c.in_ok-sources.sources _ _ _ c.in_ok-folder.ensures none
     (rw (c.in_ok-asked.ensures, c.in_ok-folder.ensures) at c.in_ok-names.ensures.heard) (rw (c.as_str.ensures.value, c.in_ok-folder.ensures, c.deref.ensures.value) at c.in_ok-sources.ensures.heard)
 
 pub returns-clause-heard : goal.returns-clause-heard
 returns-clause-heard g c =
-    heard_then (λ (v : Vec (String Global) Global). HasListed (folder c.args.path.now) (texts v)) (λ (v : Vec InMemory Global). ReadsSources (folder c.args.path.now) (filter is_source (texts c.in_ok-names.names)) (sources_of v)) (λ (v : Vec InMemory Global). FindsSources (folder c.args.path.now) (sources_of v)) c.in_ok-names.names c.in_ok-sources.sources c.in_ok-sources.sources _ _ _ (λ x y l r. finds (folder c.args.path.now) (texts c.in_ok-names.names) (sources_of c.in_ok-sources.sources) x y l r)
+    heard_then (λ (v : Vec (String Global) Global). HasListed (folder c.args.path.now) (texts v)) (λ (v : Vec InMemory Global). ReadsSources (folder c.args.path.now) (filter is_source (texts c.in_ok-names.names)) (sources_of v)) (λ (v : Vec InMemory Global). FindsSources (folder c.args.path.now) (sources_of v)) (LacksFolder (folder c.args.path.now)) (LacksSource (folder c.args.path.now) (filter is_source (texts c.in_ok-names.names))) (LacksSources (folder c.args.path.now)) c.in_ok-names.names c.in_ok-sources.sources c.in_ok-sources.sources _ _ _ (λ x y l r. finds (folder c.args.path.now) (texts c.in_ok-names.names) (sources_of c.in_ok-sources.sources) x y l r)
     (rw (c.in_ok-asked.ensures, c.in_ok-folder.ensures) at c.in_ok-names.ensures.heard) (rw (c.as_str.ensures.value, c.in_ok-folder.ensures, c.deref.ensures.value) at c.in_ok-sources.ensures.heard)

@@ -8,9 +8,10 @@ use Rattle.ui_build.specs.Stops.{state}
 use Rattle.ui_build.proofs.Steps.{told_none, told_stop, told_then, told_done}
 use Rattle.std.proofs.Common.{refl, string_bytes}
 use Rattle.ui_build.specs.Heard.{HasRead}
+use Rattle.ui_build.specs.Refused.{LacksFile}
 use Rattle.ui_sources.specs.declared.source.Source.{Source as InMemory}
 use Rattle.ui_build.specs.declared.stop.Stop.TheVariants as stop
-use Rattle.ui_build.proofs.Hearing.{heard_none, heard_stop, heard_value}
+use Rattle.ui_build.proofs.Hearing.{heard_none, heard_same, heard_value}
 use Rattle.ui_build.proofs.sources.read_source.Goals as goal
 
 pub returns-in_err-name-clause-does : goal.returns-in_err-name-clause-does
@@ -43,18 +44,18 @@ returns-clause-does g c =
 pub returns-in_err-name-clause-heard : goal.returns-in_err-name-clause-heard
 returns-in_err-name-clause-heard g c =
     let p = err_from_is_err_and c.from_residual.result c.from_residual.ensures.1 in
-    rw (p.1, p.2) (heard_none (λ (s : InMemory). HasRead (source_of s)) stop.NoMemory _ _ refl tt)
+    rw (p.1, p.2) (heard_none (λ (s : InMemory). HasRead (source_of s)) (LacksFile (file_in c.args.folder.now c.args.part.now)) stop.NoMemory _ _ refl tt)
 
 pub returns-in_err-asked-clause-heard : goal.returns-in_err-asked-clause-heard
 returns-in_err-asked-clause-heard g c =
     let p = err_from_is_err_and c.from_residual-in_err-asked.result c.from_residual-in_err-asked.ensures.1 in
-    rw (p.1, p.2) (heard_none (λ (s : InMemory). HasRead (source_of s)) stop.NoMemory _ _ refl tt)
+    rw (p.1, p.2) (heard_none (λ (s : InMemory). HasRead (source_of s)) (LacksFile (file_in c.args.folder.now c.args.part.now)) stop.NoMemory _ _ refl tt)
 
 pub returns-in_err-bytes-clause-heard : goal.returns-in_err-bytes-clause-heard
 returns-in_err-bytes-clause-heard g c =
     let p = err_from_is_err_and c.from_residual-in_err-bytes.result c.from_residual-in_err-bytes.ensures.1 in
-    rw (p.1, p.2) (heard_stop _ (λ (s : InMemory). HasRead (source_of s)) c.in_err-bytes.field-0.0 _ _ c.in_err-bytes.ensures.heard)
+    rw (p.1, p.2) (heard_same _ (λ (s : InMemory). HasRead (source_of s)) (LacksFile (file_in c.args.folder.now c.args.part.now)) c.in_err-bytes.field-0.0 _ _ (rw (c.in_ok-asked.ensures, c.in_ok-name.ensures) at c.in_err-bytes.ensures.heard))
 
 pub returns-clause-heard : goal.returns-clause-heard
 returns-clause-heard g c =
-    heard_value (λ (o : Option (Vec ℕ Global)). HasRead (string_bytes c.in_ok-name.name, option_map (λ v. v.items) o)) (λ (s : InMemory). HasRead (source_of s)) c.in_ok-bytes.bytes _ _ _ _ refl (λ x h. h) (rw c.in_ok-asked.ensures at c.in_ok-bytes.ensures.heard)
+    heard_value (λ (o : Option (Vec ℕ Global)). HasRead (string_bytes c.in_ok-name.name, option_map (λ v. v.items) o)) (λ (s : InMemory). HasRead (source_of s)) (LacksFile (string_bytes c.in_ok-name.name)) (LacksFile (file_in c.args.folder.now c.args.part.now)) c.in_ok-bytes.bytes _ _ _ _ refl (λ x h. h) (rw c.in_ok-asked.ensures at c.in_ok-bytes.ensures.heard)

@@ -2,7 +2,7 @@ use Rattle.std.proofs.Common.{◌≡◌, refl, ◌∙◌, ◌+◌, ◌++◌, ap,
 use Rattle.std.proofs.lemmas.List.{map-append}
 use Rattle.std.proofs.lemmas.Result.{err_from_is_err_and}
 use Rattle.ui_sources.specs.Sources.{Source, source_of}
-use Rattle.ui_build.specs.Package.{is_source}
+use Rattle.ui_build.specs.Package.{is_source, file_in}
 use Rattle.ui_build.specs.Sources.{sources_of}
 use Rattle.ui_build.specs.Stops.{state}
 use Rattle.ui_build.proofs.Reading.{Continues, continues_first, continues_past, continues_next, continues_stop, continues_none, continues_last, nothing_left}
@@ -10,6 +10,7 @@ use Rattle.std.specs.Prelude.{filter, Vec}
 use Rattle.std.specs.declared.alloc.Global.{Global}
 use Rattle.std.proofs.lemmas.List.{take_all}
 use Rattle.ui_build.specs.Heard.{HasRead, ReadsSources}
+use Rattle.ui_build.specs.Refused.{LacksFile, LacksSource}
 use Rattle.ui_sources.specs.declared.source.Source.{Source as InMemory}
 use Rattle.ui_build.proofs.Hearing.{ReadSoFar, so_far_first, so_far_past, so_far_next, so_far_stop, so_far_none, so_far_last}
 use Rattle.ui_build.proofs.sources.read_sources.Goals as goal
@@ -33,7 +34,7 @@ loop-name-preserved g c =
     record {
       files = c.in_ok-source.ensures.files ∙ c.loop-name.invariant.files;
       heard = subst Q (sym (ap (map source_of) c.in_ok-push.ensures.items ∙ map-append source_of c.loop-name.sources.items (c.in_ok-source.source ∷ [])))
-          (so_far_next source_of c.args.folder.now c.args.names.now c.loop-name.name-index c.name-item.result (sources_of c.loop-name.sources) c.in_ok-source.source _ _ _
+          (so_far_next source_of (LacksFile (file_in c.args.folder.now c.as_str-in-loop-name.result.now)) c.args.folder.now c.args.names.now c.loop-name.name-index c.name-item.result (sources_of c.loop-name.sources) c.in_ok-source.source _ _ _
           (omega arith) (sym (ap is_source here) ∙ sym c.if-not-is_source.ensures) (rw there at c.in_ok-source.ensures.name) c.loop-name.invariant.heard c.in_ok-source.ensures.heard);
       count = omega (arith, c.in_ok-source.ensures.cause.later);
       rest = subst P (sym (ap (map source_of) c.in_ok-push.ensures.items ∙ map-append source_of c.loop-name.sources.items (c.in_ok-source.source ∷ [])))
@@ -68,7 +69,11 @@ returns-clause-does g c =
 pub returns-in_err-source-clause-heard : goal.returns-in_err-source-clause-heard
 returns-in_err-source-clause-heard g c =
     let p = err_from_is_err_and c.from_residual.result c.from_residual.ensures.1 in
-    rw (p.1, p.2) (so_far_stop (λ (s : InMemory). HasRead (source_of s)) (λ (v : Vec InMemory Global). ReadsSources c.args.folder.now (filter is_source (map string_bytes c.args.names.now)) (sources_of v)) c.args.folder.now c.args.names.now c.loop-name.name-index (sources_of c.loop-name.sources) c.in_err-source.field-0.0 _ _ _ c.loop-name.invariant.heard c.in_err-source.ensures.heard)
+    let here = c.as_str.ensures.value ∙ ap string_bytes c.name-item.is in
+    let there = c.as_str-in-loop-name.ensures.value ∙ ap string_bytes c.name-item.is in
+    rw (p.1, p.2)
+    (so_far_stop (λ (s : InMemory). HasRead (source_of s)) (λ (v : Vec InMemory Global). ReadsSources c.args.folder.now (filter is_source (map string_bytes c.args.names.now)) (sources_of v)) c.args.folder.now c.args.names.now c.loop-name.name-index c.name-item.result (sources_of c.loop-name.sources) c.in_err-source.field-0.0 _ _ _
+    (omega arith) (sym (ap is_source here) ∙ sym c.if-not-is_source.ensures) c.loop-name.invariant.heard (rw there at c.in_err-source.ensures.heard))
 
 pub returns-in_err-push-clause-heard : goal.returns-in_err-push-clause-heard
 returns-in_err-push-clause-heard g c =
@@ -76,8 +81,8 @@ returns-in_err-push-clause-heard g c =
     let here = c.as_str.ensures.value ∙ ap string_bytes c.name-item.is in
     let there = c.as_str-in-loop-name.ensures.value ∙ ap string_bytes c.name-item.is in
     rw (p.1, p.2)
-    (so_far_none (λ (v : Vec InMemory Global). ReadsSources c.args.folder.now (filter is_source (map string_bytes c.args.names.now)) (sources_of v)) c.args.folder.now c.args.names.now (c.loop-name.name-index + 1) (sources_of c.loop-name.sources ++ source_of c.in_ok-source.source ∷ []) _ _
-    (so_far_next source_of c.args.folder.now c.args.names.now c.loop-name.name-index c.name-item.result (sources_of c.loop-name.sources) c.in_ok-source.source (g.S.Store.told c.args.store.now).heard _ _
+    (so_far_none (λ (v : Vec InMemory Global). ReadsSources c.args.folder.now (filter is_source (map string_bytes c.args.names.now)) (sources_of v)) (LacksSource c.args.folder.now (filter is_source (map string_bytes c.args.names.now))) c.args.folder.now c.args.names.now (c.loop-name.name-index + 1) (sources_of c.loop-name.sources ++ source_of c.in_ok-source.source ∷ []) _ _
+    (so_far_next source_of (LacksFile (file_in c.args.folder.now c.as_str-in-loop-name.result.now)) c.args.folder.now c.args.names.now c.loop-name.name-index c.name-item.result (sources_of c.loop-name.sources) c.in_ok-source.source (g.S.Store.told c.args.store.now).heard _ _
     (omega arith) (sym (ap is_source here) ∙ sym c.if-not-is_source.ensures) (rw there at c.in_ok-source.ensures.name) c.loop-name.invariant.heard c.in_ok-source.ensures.heard))
 
 pub returns-clause-heard : goal.returns-clause-heard

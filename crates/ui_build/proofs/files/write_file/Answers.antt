@@ -1,1 +1,0 @@
-use Rattle.ui_build.proofs.files.write_file.Goals as goal
