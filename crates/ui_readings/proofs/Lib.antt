@@ -1,3 +1,4 @@
+mod AliasesStand
 mod WayBack
 mod LengthTexts
 mod Matched

@@ -1,6 +1,7 @@
 //! Laws, each a function whose contract is the statement.
 
 ghost use Rattle.ui_readings.specs.Lengths.{LengthsAreExpressions};
+ghost use Rattle.ui_readings.specs.Aliases.{AliasesBehindParams};
 ghost use Rattle.ui_readings.specs.Tags.{TagsBehindFields, TagsExactly};
 
 /// Behind `type N [`, type parameters up to the bracket are taken for an array's length just where
@@ -15,4 +16,10 @@ pub fn lengths_are_expressions()
 pub fn tags_stand_behind_fields()
     ensures behind { TagsBehindFields }
     ensures exactly { TagsExactly }
+{}
+
+/// Behind `type`, alone or with a parenthesis and whole specifications, a name and type parameters
+/// in their brackets, `=` is that of a generic alias.
+pub fn aliases_stand_behind_params()
+    ensures { AliasesBehindParams }
 {}

@@ -3,4 +3,4 @@
 
 mod laws;
 
-pub use laws::{lengths_are_expressions, tags_stand_behind_fields};
+pub use laws::{aliases_stand_behind_params, lengths_are_expressions, tags_stand_behind_fields};
