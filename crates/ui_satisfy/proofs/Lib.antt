@@ -1,0 +1,9 @@
+pub mod Anew
+pub mod MarkLemmas
+pub mod Members
+pub mod Next
+pub mod Right
+pub mod Shapes
+pub mod Turns
+pub mod Walks
+pub mod Whole

@@ -1,0 +1,5 @@
+pub mod Comparable
+pub mod Search
+pub mod Marks
+pub mod Satisfies
+pub mod Laws
