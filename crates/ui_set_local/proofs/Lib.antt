@@ -1,0 +1,4 @@
+pub mod Alike
+pub mod SitesLocal
+pub mod TermsLocal
+pub mod SearchLocal
