@@ -1,0 +1,4 @@
+pub mod StepLemmas
+pub mod ListLemmas
+pub mod ItemLemmas
+pub mod ResultLemmas

@@ -1,0 +1,9 @@
+use Rattle.ui_collect.proofs.StepLemmas.{Walked}
+use Rattle.ui_collect.specs.Package as rules
+use Rattle.ui_collect.specs.Views.{at_place, imported_view}
+use Rattle.ui_collect.specs.Package.{source_of}
+use Rattle.ui_collect.proofs.package.specs_rule.Given as goal
+
+abbrev pub invariant-loop-spec : goal.invariant-loop-spec
+invariant-loop-spec l = Walked (rules.spec_rule (at_place l.at)) imported_view l.initial.before
+    l.before l.list l.spec-index
