@@ -8,7 +8,7 @@ use Rattle.ui_store.specs.declared.fault.StoreFault.TheVariants as fault
 use Rattle.ui_store.specs.declared.store.AskKind.TheVariants as ask
 use Rattle.ui_base.specs.declared.fault.Fault.{Fault}
 use Rattle.ui_exports.specs.Export.{Export}
-use Rattle.ui_sources.specs.Sources.{Source, source_limit}
+use Rattle.ui_sources.specs.Sources.{SourceFile, source_limit}
 use Rattle.ui_forms.specs.Form.{Form as SourceForm, imported}
 use Rattle.ui_forms.specs.Verdict.{verdict}
 use Rattle.ui_order.specs.Steps.{has}
@@ -65,7 +65,7 @@ turns_enough laws one files root turns le = enough laws one files root turns (su
 
 -- ---- sources
 
-abbrev finding : Found → Text → Plan (List Source) → Plan Found
+abbrev finding : Found → Text → Plan (List SourceFile) → Plan Found
 finding found path p = p >>= λ sources. settled (within_limit (with_imports found path (imports_in path sources)))
 
 found_same : (files told : Files) → SameSources files told → (n : ℕ) (found : Found) → discover n told found ≡ discover n files found
@@ -80,11 +80,11 @@ found_same files told same (suc n) found =
 order_same : (files told : Files) → SameSources files told → (root : Text) → build_order told root ≡ build_order files root
 order_same files told same root = ap (λ (p : Plan Found). p >>= λ found. settled (ordered found.read)) (found_same files told same (suc package_limit) (begun root))
 
-abbrev judging : Packages → Text → Plan (List Source) → Plan Entry
+abbrev judging : Packages → Text → Plan (List SourceFile) → Plan Entry
 judging packages path p =
     (p >>= λ sources. settled (form_or path sources)) >>= λ form. reads (imported form) >>= λ _. settled (or_fault (verdict (values packages) form)) >>= λ export. done (record { export = export; below = below_of packages form })
 
-abbrev compiling : Packages → Text → Plan (List Source) → Plan Entry
+abbrev compiling : Packages → Text → Plan (List SourceFile) → Plan Entry
 compiling packages path p = judging packages path p >>= λ entry. write_files path entry >>= λ _. done entry
 
 all_same : (files told : Files) → SameSources files told → (order : List Text) (packages : Packages) → compile_all told packages order ≡ compile_all files packages order
@@ -141,10 +141,10 @@ source_refused files path part r e =
     let name : Text = file_in (folder path) part in
     elim (refused_in (read_file files name source_limit) (λ bytes. done (name, bytes)) r e) [
       | inl h ↦ of_name name r (path, inr (part, refl)) (read_refused name (reading files name source_limit) r h)
-      | inr (x, is, h) ↦ absurd (no_err {X = Source} (name, x) r h)
+      | inr (x, is, h) ↦ absurd (no_err {X = SourceFile} (name, x) r h)
     ]
 
-sources_refused : (files : Files) (path : Text) (names : List Text) (sources : List Source) (r : Refusal) → (read_sources files (folder path) sources names).value ≡ Err r → IsOfSources r
+sources_refused : (files : Files) (path : Text) (names : List Text) (sources : List SourceFile) (r : Refusal) → (read_sources files (folder path) sources names).value ≡ Err r → IsOfSources r
 unfolding read_sources
 sources_refused files path [] sources r e = absurd (no_err sources r e)
 sources_refused files path (name ∷ names) sources r e =
@@ -153,9 +153,9 @@ sources_refused files path (name ∷ names) sources r e =
       | inr (x, is, h) ↦ sources_refused files path names (sources ++ x ∷ []) r h
     ]
 
-some_refused : (path : Text) (sources : List Source) (r : Refusal) → (some_source (folder path) sources).value ≡ Err r → IsOfSources r
-some_refused path [] r e = of_name (folder path) r (path, inl refl) (err_is {X = List Source} (NoFile (folder path)) r e)
-some_refused path (source ∷ sources) r e = absurd (no_err {X = List Source} (source ∷ sources) r e)
+some_refused : (path : Text) (sources : List SourceFile) (r : Refusal) → (some_source (folder path) sources).value ≡ Err r → IsOfSources r
+some_refused path [] r e = of_name (folder path) r (path, inl refl) (err_is {X = List SourceFile} (NoFile (folder path)) r e)
+some_refused path (source ∷ sources) r e = absurd (no_err {X = List SourceFile} (source ∷ sources) r e)
 
 find_refused : (files : Files) (path : Text) (r : Refusal) → (find files (folder path)).value ≡ Err r → IsOfSources r
 find_refused files path r e =
@@ -201,7 +201,7 @@ order_refused files root r e =
 
 -- compiling
 
-form_refused : (path : Text) (sources : List Source) (r : Refusal) → (settled (form_or path sources)).value ≡ Err r → IsOfSources r
+form_refused : (path : Text) (sources : List SourceFile) (r : Refusal) → (settled (form_or path sources)).value ≡ Err r → IsOfSources r
 form_refused path sources r e =
     elim (no_form_by path sources r (sym (settled_value (form_or path sources)) ∙ e)) [
       | inl (none, eq) ↦ of_name (folder path) r (path, inl refl) (sym eq)

@@ -9,7 +9,7 @@ use Rattle.ui_tree.specs.declared.part.Specs.TheVariants.{One, Grouped}
 use Rattle.ui_tree.specs.declared.decl.FileTree.{FileTree}
 use Rattle.ui_tree.specs.Stmt.{Imported, Import}
 use Rattle.ui_tree.specs.StmtView.{file_view}
-use Rattle.ui_sources.specs.Sources.{HasValidPaths, Source, SourceTree, Trees, source_tree, specs_of, trees_of}
+use Rattle.ui_sources.specs.Sources.{HasValidPaths, SourceFile, SourceTree, Trees, source_tree, specs_of, trees_of}
 use Rattle.ui_forms.specs.Form as forms
 use Rattle.ui_forms.specs.Form.{Form as SourceForm, file_paths, form_of, import_paths, imported, imports_of, spec_paths}
 use Rattle.ui_forms.specs.Laws.{ImportsAreFound}
@@ -77,7 +77,7 @@ by_trees found path (Ok t) f e = sym (found path t.size (map in_form t.files) f 
 by_trees found path (Err fault) f e = absurd cc
 
 -- a form imports what the sources do
-pub form_imports : ImportsAreFound → (path : Text) (sources : List Source) (f : SourceForm) → form_or path sources ≡ Ok f → imports_in path sources ≡ imported f
+pub form_imports : ImportsAreFound → (path : Text) (sources : List SourceFile) (f : SourceForm) → form_or path sources ≡ Ok f → imports_in path sources ≡ imported f
 unfolding form_or
 form_imports found path [] f e = absurd cc
 form_imports found path (source ∷ sources) f e = by_trees found path (trees_of path (source ∷ sources)) f e

@@ -16,7 +16,7 @@ use Rattle.ui_frame.specs.declared.frame.FrameFault.{FrameFault}
 use Rattle.ui_base.specs.declared.fault.Fault.{Fault}
 use Rattle.ui_exports.specs.Linked.{Linked}
 use Rattle.ui_base.specs.declared.value.Pos.{Pos}
-use Rattle.ui_sources.specs.Sources.{Source, Trees, trees_of}
+use Rattle.ui_sources.specs.Sources.{SourceFile, Trees, trees_of}
 use Rattle.ui_forms.specs.Form.{Form as SourceForm, imported}
 use Rattle.ui_consts.specs.Reading.{record_in}
 use Rattle.ui_build.specs.Plan.{Text, Refusal, NoFile, Faulty, Form, TooLong, BadFrame, BadElement, TooMany, Cycle, Stale, Plan}
@@ -26,7 +26,7 @@ use Rattle.ui_build.specs.Sources.{sources_of}
 use Rattle.ui_build.specs.Stops.{SettlesStop, refusal_of}
 use Rattle.ui_build.specs.Heard.{HearsIn, IsNoRefusal, StoppedBy, FindsSources, ReadsSources, ReadsForm, HasRead, HasListed, HearsPackage, LoadsAll, LoadsImports, Loads, Compiles, CompilesAll, FindsOrder, Builds, heard_source, names_of, pairs_of}
 use Rattle.ui_build.specs.Refused.{By, EitherRefused, LacksFolder, LacksFile, LacksSource, LacksSources, LacksForm, BadLinked, BadImports, BadPackage, BadPackages, LacksOrder, BuildRefused}
-use Rattle.ui_sources.specs.declared.source.Source.{Source as InMemory}
+use Rattle.ui_sources.specs.declared.source.SourceFile.{SourceFile as InMemory}
 use Rattle.ui_build.specs.declared.stop.Refusal.TheVariants as told
 use Rattle.ui_build.specs.declared.stop.Stop.{Stop}
 use Rattle.ui_build.specs.declared.stop.Stop.TheVariants as stop
@@ -122,24 +122,24 @@ source_more : (names : Names) (i : ℕ) (d : String Global) → i < length names
 source_more names i d h e = one_more names i d h ∙ ap (λ b. sources_to names i ++ cond b (string_bytes (get_or names i d) ∷ []) []) e
 
 -- what was heard of the sources read so far
-pub record ReadSoFar (folder : Text) (names : Names) (i : ℕ) (sources : List Source) (old now : Hearings) : Type 0 where
+pub record ReadSoFar (folder : Text) (names : Names) (i : ℕ) (sources : List SourceFile) (old now : Hearings) : Type 0 where
   pub told : now ≡ more old (map heard_source sources)
   pub parts : names_of sources ≡ map (file_in folder) (sources_to names i)
 
 pub so_far_first : (folder : Text) (names : Names) (old : Hearings) → ReadSoFar folder names 0 [] old old
 so_far_first folder names old = record { told = sym (more_none old); parts = refl }
 
-pub so_far_past : (folder : Text) (names : Names) (i : ℕ) (d : String Global) (sources : List Source) (old now : Hearings) → i < length names → is_source (string_bytes (get_or names i d)) ≡ false → ReadSoFar folder names i sources old now → ReadSoFar folder names (i + 1) sources old now
+pub so_far_past : (folder : Text) (names : Names) (i : ℕ) (d : String Global) (sources : List SourceFile) (old now : Hearings) → i < length names → is_source (string_bytes (get_or names i d)) ≡ false → ReadSoFar folder names i sources old now → ReadSoFar folder names (i + 1) sources old now
 so_far_past folder names i d sources old now h e r = record { told = r.told; parts = r.parts ∙ ap (map (file_in folder)) (sym (no_source_more names i d h e)) }
 
-next_told : (sources : List Source) (s : Source) (old now new : Hearings) → now ≡ more old (map heard_source sources) → (heard : List Hearing) → new ≡ more now heard → heard ≡ heard_source s ∷ [] → new ≡ more old (map heard_source (sources ++ s ∷ []))
+next_told : (sources : List SourceFile) (s : SourceFile) (old now new : Hearings) → now ≡ more old (map heard_source sources) → (heard : List Hearing) → new ≡ more now heard → heard ≡ heard_source s ∷ [] → new ≡ more old (map heard_source (sources ++ s ∷ []))
 next_told sources s old now new p heard q e = both_told old now new (map heard_source sources) heard p q ∙ ap (λ h. more old (map heard_source sources ++ h)) e ∙ ap (more old) (sym (map-append heard_source sources (s ∷ [])))
 
-pub so_far_next : {X : Type 0} (view : X → Source) (p : Refusal → List Hearing → Type 0) (folder : Text) (names : Names) (i : ℕ) (d : String Global) (sources : List Source) (x : X) (old now new : Hearings) → i < length names → is_source (string_bytes (get_or names i d)) ≡ true → (view x).0 ≡ file_in folder (string_bytes (get_or names i d))
+pub so_far_next : {X : Type 0} (view : X → SourceFile) (p : Refusal → List Hearing → Type 0) (folder : Text) (names : Names) (i : ℕ) (d : String Global) (sources : List SourceFile) (x : X) (old now new : Hearings) → i < length names → is_source (string_bytes (get_or names i d)) ≡ true → (view x).0 ≡ file_in folder (string_bytes (get_or names i d))
     → ReadSoFar folder names i sources old now → HearsIn (λ y. HasRead (view y)) p now new (Ok x) → ReadSoFar folder names (i + 1) (sources ++ view x ∷ []) old new
 so_far_next view p folder names i d sources x old now new h e name r read = record {
   told = next_told sources (view x) old now new r.told read.heard read.told read.ends;
-  parts = map-append (λ (s : Source). s.0) sources (view x ∷ []) ∙ ap (λ ns. ns ++ (view x).0 ∷ []) r.parts ∙ ap (λ n. map (file_in folder) (sources_to names i) ++ n ∷ []) name
+  parts = map-append (λ (s : SourceFile). s.0) sources (view x ∷ []) ∙ ap (λ ns. ns ++ (view x).0 ∷ []) r.parts ∙ ap (λ n. map (file_in folder) (sources_to names i) ++ n ∷ []) name
       ∙ sym (map-append (file_in folder) (sources_to names i) (string_bytes (get_or names i d) ∷ [])) ∙ ap (map (file_in folder)) (sym (source_more names i d h e));
 }
 
@@ -151,7 +151,7 @@ parts_at names i d h e =
     ∙ filter-append is_source (map string_bytes (take i names)) (map string_bytes (drop i names)) ∙ ap (λ ns. sources_to names i ++ ns) (source_here names i d h e)
 
 -- one of them isn't there
-pub so_far_stop : {X Y : Type 0} (read : X → List Hearing → Type 0) (gives : Y → List Hearing → Type 0) (folder : Text) (names : Names) (i : ℕ) (d : String Global) (sources : List Source) (s : Stop) (old now new : Hearings) → i < length names → is_source (string_bytes (get_or names i d)) ≡ true
+pub so_far_stop : {X Y : Type 0} (read : X → List Hearing → Type 0) (gives : Y → List Hearing → Type 0) (folder : Text) (names : Names) (i : ℕ) (d : String Global) (sources : List SourceFile) (s : Stop) (old now new : Hearings) → i < length names → is_source (string_bytes (get_or names i d)) ≡ true
     → ReadSoFar folder names i sources old now → HearsIn read (LacksFile (file_in folder (string_bytes (get_or names i d)))) now new (Err s) → HearsIn gives (LacksSource folder (filter is_source (map string_bytes names))) old new (Err s)
 so_far_stop read gives folder names i d sources s old now new lt e r h =
     let name = string_bytes (get_or names i d) in
@@ -172,7 +172,7 @@ so_far_stop read gives folder names i d sources s old now new lt e r h =
       ends = stopped_as (LacksFile (file_in folder name)) (LacksSource folder (filter is_source (map string_bytes names))) h.heard (map heard_source sources ++ h.heard) s refused h.ends;
     }
 
-pub so_far_none : {Y : Type 0} (gives : Y → List Hearing → Type 0) (refuses : Refusal → List Hearing → Type 0) (folder : Text) (names : Names) (i : ℕ) (sources : List Source) (old now : Hearings) → ReadSoFar folder names i sources old now → HearsIn gives refuses old now (Err stop.NoMemory)
+pub so_far_none : {Y : Type 0} (gives : Y → List Hearing → Type 0) (refuses : Refusal → List Hearing → Type 0) (folder : Text) (names : Names) (i : ℕ) (sources : List SourceFile) (old now : Hearings) → ReadSoFar folder names i sources old now → HearsIn gives refuses old now (Err stop.NoMemory)
 so_far_none gives refuses folder names i sources old now r = record { heard = map heard_source sources; told = r.told; ends = tt }
 
 pub so_far_last : (folder : Text) (names : Names) (i : ℕ) (v : Vec InMemory Global) (old now : Hearings) → take i names ≡ names → ReadSoFar folder names i (sources_of v) old now
@@ -184,7 +184,7 @@ so_far_last folder names i v old now all r = record {
 }
 
 -- a folder was listed, and its sources read
-pub finds : (folder : Text) (names : List Text) (sources : List Source) (a b : List Hearing) → HasListed folder names a → ReadsSources folder (filter is_source names) sources b → FindsSources folder sources (a ++ b)
+pub finds : (folder : Text) (names : List Text) (sources : List SourceFile) (a b : List Hearing) → HasListed folder names a → ReadsSources folder (filter is_source names) sources b → FindsSources folder sources (a ++ b)
 finds folder names sources a b listed read = record { names = names; whole = ap (λ x. x ++ b) listed ∙ ap (λ x. (ask.List, folder, given.Names names) ∷ x) read.whole; parts = read.parts }
 
 -- a folder that isn't there
@@ -206,7 +206,7 @@ find_unread two gives folder names s old mid new l h =
 pub find_empty : {Y : Type 0} (gives : Y → List Hearing → Type 0) (folder : Text) (name : String Global) (names : Vec (String Global) Global) (v : Vec InMemory Global) (old mid new : Hearings) → string_bytes name ≡ folder → length v.items ≡ 0
     → Listed folder old mid names → HearsIn (λ (w : Vec InMemory Global). ReadsSources folder (filter is_source (texts names)) (sources_of w)) (LacksSource folder (filter is_source (texts names))) mid new (Ok v) → HearsIn gives (LacksSources folder) old new (Err (stop.Refused (told.NoFile name)))
 find_empty gives folder name names v old mid new is none l r =
-    let none_is : (some_source folder (sources_of v)).value ≡ Err (NoFile (string_bytes name)) = ap (λ (q : Plan (List Source)). q.value) (some_source-none folder v.items none) ∙ ap (λ n. failing {X = List Source} (NoFile n)) (sym is) in
+    let none_is : (some_source folder (sources_of v)).value ≡ Err (NoFile (string_bytes name)) = ap (λ (q : Plan (List SourceFile)). q.value) (some_source-none folder v.items none) ∙ ap (λ n. failing {X = List SourceFile} (NoFile n)) (sym is) in
     let later : HearsIn gives (EitherRefused (LacksSource folder (filter is_source (texts names))) (ReadsSources folder (filter is_source (texts names))) (λ sources. By (some_source folder sources).value)) mid new (Err (stop.Refused (told.NoFile name))) =
     heard_by sources_of gives (LacksSource folder (filter is_source (texts names))) (LacksSource folder (filter is_source (texts names))) (ReadsSources folder (filter is_source (texts names))) (λ sources. (some_source folder sources).value) v (stop.Refused (told.NoFile name)) mid new r none_is in
     heard_second texts gives gives (LacksFolder folder) (LacksFolder folder) (HasListed folder) (λ ns. EitherRefused (LacksSource folder (filter is_source ns)) (ReadsSources folder (filter is_source ns)) (λ sources. By (some_source folder sources).value)) names (stop.Refused (told.NoFile name)) old mid new l later
@@ -217,7 +217,7 @@ err_is : {X : Type 0} (x y : Refusal) → failing {X = X} x ≡ failing y → y 
 err_is x y e = cc
 
 -- A package has no form for want of sources, for their fault, or for what isn't taken.
-abbrev pub IsNoForm : Text → List Source → Refusal → Type 0
+abbrev pub IsNoForm : Text → List SourceFile → Refusal → Type 0
 IsNoForm path sources r = ((sources ≡ []) × (r ≡ NoFile (folder path))) ⊎ (((fault : Fault) × (r ≡ Faulty fault)) ⊎ ((pos : Pos) × (r ≡ Form pos)))
 
 abbrev pub IsNoFormOfTrees : Refusal → Type 0
@@ -231,7 +231,7 @@ no_form : (path : Text) (found : Result Trees Fault) (r : Refusal) → form_by p
 no_form path (Ok trees) r e = not_formed _ r e
 no_form path (Err fault) r e = inl (fault, err_is {X = SourceForm} (Faulty fault) r e)
 
-pub no_form_by : (path : Text) (sources : List Source) (r : Refusal) → form_or path sources ≡ Err r → IsNoForm path sources r
+pub no_form_by : (path : Text) (sources : List SourceFile) (r : Refusal) → form_or path sources ≡ Err r → IsNoForm path sources r
 unfolding form_or
 no_form_by path [] r e = inl (refl, err_is {X = SourceForm} (NoFile (folder path)) r e)
 no_form_by path (source ∷ sources) r e = inr (no_form path (trees_of path (source ∷ sources)) r e)
@@ -246,7 +246,7 @@ Sources folder old new v = HearsIn (λ (w : Vec InMemory Global). FindsSources f
 pub form_unread : {B : Type 0} (gives : B → List Hearing → Type 0) (path : Text) (v : Vec InMemory Global) (s : Stop) (old new : Hearings) → Sources (folder path) old new v → SettlesStop (form_or path (sources_of v)) s → HearsIn gives (LacksForm path) old new (Err s)
 form_unread gives path v s old new f is = heard_by sources_of gives (LacksSources (folder path)) (LacksSources (folder path)) (FindsSources (folder path)) (form_or path) v s old new f is
 
-pub reads_form : (path : Text) (sources : List Source) (form : SourceForm) (found : List Hearing) → form_or path sources ≡ Ok form → FindsSources (folder path) sources found → ReadsForm path form found
+pub reads_form : (path : Text) (sources : List SourceFile) (form : SourceForm) (found : List Hearing) → form_or path sources ≡ Ok form → FindsSources (folder path) sources found → ReadsForm path form found
 reads_form path sources form found is finds = record { sources = sources; found = finds; spelled = is }
 
 -- ---- a linked file that was read

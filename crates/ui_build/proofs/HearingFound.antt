@@ -17,7 +17,7 @@ use Rattle.ui_build.specs.Sources.{sources_of}
 use Rattle.ui_build.specs.Stops.{SettlesStop}
 use Rattle.ui_build.specs.Heard.{HearsIn, FindsSources, FindsOne, FindsIn, FindsAll, FindsOrder}
 use Rattle.ui_build.specs.Refused.{By, LacksSources, LacksOne, LacksPackages, LacksOrder}
-use Rattle.ui_sources.specs.declared.source.Source.{Source as InMemory}
+use Rattle.ui_sources.specs.declared.source.SourceFile.{SourceFile as InMemory}
 use Rattle.ui_build.specs.declared.stop.Stop.{Stop}
 use Rattle.ui_build.specs.declared.stop.Stop.TheVariants as stop
 use Rattle.ui_build.proofs.Discovered.{begun_few}

@@ -14,7 +14,7 @@ use Rattle.ui_store.specs.Files.{Files, listing, reading, within, part_in, if_na
 use Rattle.ui_store.specs.declared.fault.StoreFault.{StoreFault}
 use Rattle.ui_store.specs.declared.store.AskKind.TheVariants as ask
 use Rattle.ui_build.specs.Plan.{Text, Plan, done, ◌>>=◌, asking}
-use Rattle.ui_sources.specs.Sources.{Source, source_limit}
+use Rattle.ui_sources.specs.Sources.{SourceFile, source_limit}
 use Rattle.ui_build.specs.Package.{folder, unit_file, linked_file, file_in, is_source, listed_as, read_as, read_source, read_sources, some_source, find}
 use Rattle.ui_build.specs.Built.{SameSources}
 use Rattle.ui_build.proofs.Plans.{bind_same}
@@ -74,7 +74,7 @@ linked_elsewhere path = record { file = λ rest. refl; part = λ p. no_part (fol
 
 -- ---- sources
 
-read_other : (files : Files) (other bytes path : Text) (sources : List Source) (names : List Text) → IsElsewhere other
+read_other : (files : Files) (other bytes path : Text) (sources : List SourceFile) (names : List Text) → IsElsewhere other
     → read_sources (insert files other bytes) (folder path) sources names ≡ read_sources files (folder path) sources names
 unfolding read_sources
 read_other files other bytes path sources [] out = refl
@@ -83,7 +83,7 @@ read_other files other bytes path sources (name ∷ names) out =
     ap (λ r. (asking (ask.Read, file) (read_as file r) >>= λ b. done (file, b)) >>= λ s. read_sources (insert files other bytes) (folder path) (sources ++ s ∷ []) names) (reading_other files other file bytes source_limit (out.file ((codes "rc/" ++ path) ++ (codes "/" ++ name))))
     ∙ bind_same (read_source files file) (λ s. read_sources (insert files other bytes) (folder path) (sources ++ s ∷ []) names) (λ s. read_sources files (folder path) (sources ++ s ∷ []) names) (λ s _. read_other files other bytes path (sources ++ s ∷ []) names out)
 
-abbrev found_with : Files → Text → Result (List Text) StoreFault → Plan (List Source)
+abbrev found_with : Files → Text → Result (List Text) StoreFault → Plan (List SourceFile)
 found_with files dir r = asking (ask.List, dir) (listed_as dir r) >>= λ names. read_sources files dir [] (filter is_source names) >>= λ sources. some_source dir sources
 
 pub find_other : (files : Files) (other bytes path : Text) → IsElsewhere other → find (insert files other bytes) (folder path) ≡ find files (folder path)

@@ -16,7 +16,7 @@ use Rattle.ui_forms.specs.Verdict.{environment_of, verdict, constant_in, IsLocal
 use Rattle.ui_below.specs.Claims.{claims, claims_of, indirect}
 use Rattle.ui_below.specs.Join.{joined, marked, JoinedAsMarked, MarksThePaths}
 use Rattle.ui_build.specs.Plan.{Text, Refusal, TooMany, Entry, Plan, or_fault, done, settled, ◌>>=◌}
-use Rattle.ui_sources.specs.Sources.{Source}
+use Rattle.ui_sources.specs.Sources.{SourceFile}
 use Rattle.ui_build.specs.Package.{folder, find as find_sources, form_or, read_form}
 use Rattle.ui_build.specs.Build.{Packages, package_limit, values, value_in, brings, below_in, not_direct, below_of, reads, judged}
 use Rattle.ui_build.specs.Loading.{Imports, print_of, with_print, linked_as, mark_of, load_all, or_apart, with_export, judged_with, judgement, prepared}
@@ -189,10 +189,10 @@ settled_value : (r : Result SourceForm Refusal) (form : SourceForm) → (settled
 settled_value (Ok f) form e = ap Ok (ok_is f form e)
 settled_value (Err refusal) form e = absurd cc
 
-pub found_imports : (laws : Laws) (path : Text) (p : Plan (List Source)) (form : SourceForm) → (p >>= λ sources. settled (form_or path sources)).value ≡ Ok form → imports_found path p.value ≡ imported form
+pub found_imports : (laws : Laws) (path : Text) (p : Plan (List SourceFile)) (form : SourceForm) → (p >>= λ sources. settled (form_or path sources)).value ≡ Ok form → imports_found path p.value ≡ imported form
 found_imports laws path p form e = by p.value e
   where
-    by : (v : Result (List Source) Refusal) → (record { value = v; asks = p.asks; puts = p.puts } >>= λ sources. settled (form_or path sources)).value ≡ Ok form → imports_found path v ≡ imported form
+    by : (v : Result (List SourceFile) Refusal) → (record { value = v; asks = p.asks; puts = p.puts } >>= λ sources. settled (form_or path sources)).value ≡ Ok form → imports_found path v ≡ imported form
     by (Ok sources) h = form_imports laws.found path sources form (settled_value (form_or path sources) form h)
     by (Err refusal) h = absurd cc
 
@@ -216,7 +216,7 @@ by_form laws told packages own form built h apart few =
 -- A package that may be compiled is prepared from its linked files as it is judged by the sources alone.
 pub sufficient : (laws : Laws) (files told : Files) (packages : Packages) (path : Text) → IsReady files told packages path → prepared told path ≡ (judged files packages path >>= λ entry. done (linked_as told entry))
 sufficient laws files told packages path ready =
-    ap (λ (p : Plan (List Source)). (p >>= λ sources. settled (form_or path sources)) >>= λ form. load_all told ([], []) (imported form) >>= λ imports. settled (judgement path form imports)) (ready.same path)
+    ap (λ (p : Plan (List SourceFile)). (p >>= λ sources. settled (form_or path sources)) >>= λ form. load_all told ([], []) (imported form) >>= λ imports. settled (judgement path form imports)) (ready.same path)
     ∙ bind_same (read_form files path) (λ form. load_all told ([], []) (imported form) >>= λ imports. settled (judgement path form imports)) (λ form. judged_form packages form >>= λ entry. done (linked_as told entry))
     (λ form is.
     let P : List Text → Type 0 = AreThere packages in

@@ -5,7 +5,7 @@ use Rattle.std.specs.List.{AllByRecursion}
 use Rattle.std.specs.FinMap.{get, contains_key, len}
 use Rattle.ui_store.specs.Files.{Files}
 use Rattle.ui_order.specs.Steps.{has}
-use Rattle.ui_sources.specs.Sources.{Source}
+use Rattle.ui_sources.specs.Sources.{SourceFile}
 use Rattle.ui_build.specs.Plan.{Text, Refusal, Entry}
 use Rattle.ui_build.specs.Package.{folder, linked_file, find, imports_in}
 use Rattle.ui_build.specs.Build.{Packages, package_limit}
@@ -27,7 +27,7 @@ abbrev pub AreBuilt : Files → Packages → Type 0
 AreBuilt told packages = (path : Text) (entry : Entry) → get packages path ≡ Some entry → IsBuilt told packages path entry
 
 -- the imports of a package by its sources
-abbrev pub imports_found : Text → Result (List Source) Refusal → List Text
+abbrev pub imports_found : Text → Result (List SourceFile) Refusal → List Text
 imports_found path (Ok sources) = imports_in path sources
 imports_found path (Err refusal) = []
 

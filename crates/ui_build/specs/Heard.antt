@@ -10,7 +10,7 @@ use Rattle.ui_store.specs.declared.store.Given.TheVariants as given
 use Rattle.ui_exports.specs.Export.{Export}
 use Rattle.ui_exports.specs.Linked.{Linked}
 use Rattle.ui_forms.specs.Form.{Form as SourceForm, imported}
-use Rattle.ui_sources.specs.Sources.{Source}
+use Rattle.ui_sources.specs.Sources.{SourceFile}
 use Rattle.ui_order.specs.Found.{Found, begun, least_unread, with_imports}
 use Rattle.ui_build.specs.Plan.{Text, Refusal}
 use Rattle.ui_build.specs.Package.{folder, file_in, linked_file, is_source, form_or, imports_in}
@@ -28,7 +28,7 @@ given_of (Some bytes) = given.Bytes bytes
 given_of None = given.TooLong
 
 -- the names of sources in the store
-abbrev pub names_of : List Source → List Text
+abbrev pub names_of : List SourceFile → List Text
 names_of sources = map (λ source. source.0) sources
 
 -- a folder was listed
@@ -36,26 +36,26 @@ abbrev pub HasListed : Text → List Text → List Hearing → Type 0
 HasListed folder names heard = heard ≡ (ask.List, folder, given.Names names) ∷ []
 
 -- what was heard as a file was read, so a source
-abbrev pub heard_source : Source → Hearing
+abbrev pub heard_source : SourceFile → Hearing
 heard_source source = (ask.Read, source.0, given_of source.1)
 
-abbrev pub HasRead : Source → List Hearing → Type 0
+abbrev pub HasRead : SourceFile → List Hearing → Type 0
 HasRead source heard = heard ≡ heard_source source ∷ []
 
 -- Files of a folder were read by their names, in order.
-pub record ReadsSources (folder : Text) (names : List Text) (sources : List Source) (heard : List Hearing) : Type 0 where
+pub record ReadsSources (folder : Text) (names : List Text) (sources : List SourceFile) (heard : List Hearing) : Type 0 where
   pub whole : heard ≡ map heard_source sources
   pub parts : names_of sources ≡ map (file_in folder) names
 
 -- A folder was listed, and each source in it was read, in order.
-pub record FindsSources (folder : Text) (sources : List Source) (heard : List Hearing) : Type 0 where
+pub record FindsSources (folder : Text) (sources : List SourceFile) (heard : List Hearing) : Type 0 where
   pub names : List Text
   pub whole : heard ≡ (ask.List, folder, given.Names names) ∷ map heard_source sources
   pub parts : names_of sources ≡ map (file_in folder) (filter is_source names)
 
 -- The sources of a package were found, and have this form.
 pub record ReadsForm (path : Text) (form : SourceForm) (heard : List Hearing) : Type 0 where
-  pub sources : List Source
+  pub sources : List SourceFile
   pub found : FindsSources (folder path) sources heard
   pub spelled : form_or path sources ≡ Ok form
 
@@ -109,7 +109,7 @@ CompilesAll (path ∷ paths) heard = (first : List Hearing) × (others : List He
 -- Behind what was found so far a path was read: the sources of its package were found, and their
 -- imports, with which there aren't too many.
 pub record FindsOne (found : Found) (path : Text) (more : Found) (heard : List Hearing) : Type 0 where
-  pub sources : List Source
+  pub sources : List SourceFile
   pub finds : FindsSources (folder path) sources heard
   pub within : within_limit (with_imports found path (imports_in path sources)) ≡ Ok more
 

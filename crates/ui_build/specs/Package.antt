@@ -7,7 +7,7 @@ use Rattle.ui_store.specs.declared.fault.StoreFault.TheVariants as fault
 use Rattle.ui_store.specs.declared.store.AskKind.TheVariants as ask
 use Rattle.ui_base.specs.declared.value.Pos.{Pos}
 use Rattle.ui_base.specs.declared.fault.Fault.{Fault}
-use Rattle.ui_sources.specs.Sources.{Source, SourceTree, Trees, source_limit, trees_of}
+use Rattle.ui_sources.specs.Sources.{SourceFile, SourceTree, Trees, source_limit, trees_of}
 use Rattle.ui_forms.specs.Form.{Form as SourceForm, Source as FormSource, form_of, imports_of}
 use Rattle.ui_build.specs.Plan.{Text, Refusal, NoFile, Faulty, Form, Plan, done, refused, settled, ◌>>=◌, asking}
 
@@ -51,21 +51,21 @@ list_folder files name = asking (ask.List, name) (listed_as name (listing files 
 abbrev pub read_file : Files → Text → ℕ → Plan (Option Text)
 read_file files name limit = asking (ask.Read, name) (read_as name (reading files name limit))
 
-abbrev pub read_source : Files → Text → Plan Source
+abbrev pub read_source : Files → Text → Plan SourceFile
 read_source files name = read_file files name source_limit >>= λ bytes. done (name, bytes)
 
 -- the files of a folder by their names, each behind those read so far
-unfoldable pub read_sources : Files → Text → List Source → List Text → Plan (List Source)
+unfoldable pub read_sources : Files → Text → List SourceFile → List Text → Plan (List SourceFile)
 read_sources files folder sources [] = done sources
 read_sources files folder sources (name ∷ names) = read_source files (file_in folder name) >>= λ source. read_sources files folder (sources ++ source ∷ []) names
 
 -- a folder without sources is no package
-abbrev pub some_source : Text → List Source → Plan (List Source)
+abbrev pub some_source : Text → List SourceFile → Plan (List SourceFile)
 some_source folder [] = refused (NoFile folder)
 some_source folder (source ∷ sources) = done (source ∷ sources)
 
 -- the sources of a package, in the order in which the store lists them: ascending by name
-abbrev pub find : Files → Text → Plan (List Source)
+abbrev pub find : Files → Text → Plan (List SourceFile)
 find files folder = list_folder files folder >>= λ names. read_sources files folder [] (filter is_source names) >>= λ sources. some_source folder sources
 
 -- a source's tree, as its form is read
@@ -85,7 +85,7 @@ form_by path (Ok trees) = form_in path trees
 form_by path (Err fault) = Err (Faulty fault)
 
 -- The form of a package's sources: all of them have trees, else their first fault, and the trees have a form.
-unfoldable pub form_or : Text → List Source → Result SourceForm Refusal
+unfoldable pub form_or : Text → List SourceFile → Result SourceForm Refusal
 form_or path [] = Err (NoFile (folder path))
 form_or path (source ∷ sources) = form_by path (trees_of path (source ∷ sources))
 
@@ -95,7 +95,7 @@ imports_by_trees (Ok trees) = imports_of (map (λ s. s.tree) trees.files)
 imports_by_trees (Err fault) = []
 
 -- what a package's sources import, whether they have a form or not
-abbrev pub imports_in : Text → List Source → List Text
+abbrev pub imports_in : Text → List SourceFile → List Text
 imports_in path sources = imports_by_trees (trees_of path sources)
 
 -- the form of a package's sources

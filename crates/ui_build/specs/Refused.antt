@@ -6,7 +6,7 @@ use Rattle.ui_store.specs.Calls.{Hearing}
 use Rattle.ui_store.specs.declared.store.AskKind.TheVariants as ask
 use Rattle.ui_store.specs.declared.store.Given.TheVariants as given
 use Rattle.ui_forms.specs.Form.{imported}
-use Rattle.ui_sources.specs.Sources.{Source}
+use Rattle.ui_sources.specs.Sources.{SourceFile}
 use Rattle.ui_order.specs.Found.{Found, least_unread, with_imports}
 use Rattle.ui_build.specs.Plan.{Text, Refusal, NoFile}
 use Rattle.ui_build.specs.Package.{folder, file_in, linked_file, is_source, form_or, imports_in, some_source}
@@ -60,7 +60,7 @@ LacksFile name refusal heard =
 
 -- the files of a folder by these names were read
 abbrev pub ReadsThese : Text → List Text → List Hearing → Type 0
-ReadsThese folder names heard = (sources : List Source) × ReadsSources folder names sources heard
+ReadsThese folder names heard = (sources : List SourceFile) × ReadsSources folder names sources heard
 
 -- one of the files of a folder, by these names, isn't there
 abbrev pub LacksSource : Text → List Text → Refusal → List Hearing → Type 0

@@ -16,7 +16,7 @@ use crate::sources::find;
 use crate::stop::{Refusal, Stop};
 use std::alloc::{AllocError, Global};
 use ui_order::{Discovery, Order, PACKAGE_LIMIT, discovery_keeps};
-use ui_sources::Source;
+use ui_sources::SourceFile;
 use ui_store::Store;
 
 // A package was found: its imports are found, too, where these aren't too many.
@@ -24,7 +24,7 @@ fn add_package(
     alloc: Global,
     discovery: Discovery,
     path: String,
-    sources: &[Source],
+    sources: &[SourceFile],
 ) -> Result<Discovery, Stop>
     ensures settled { Settles (λ d. d)
         (within_limit (with_imports discovery (string_bytes path)

@@ -25,10 +25,10 @@ use ui_below::{JoinFault, join, list_of_paths};
 use ui_exports::{Below, Linked, Package};
 use ui_forms::{Form, FormFault, accepted_forms, check, form_of, imports_of};
 use ui_order::PACKAGE_LIMIT;
-use ui_sources::{Source, Trees, import_paths_are_valid, read_trees};
+use ui_sources::{SourceFile, Trees, import_paths_are_valid, read_trees};
 
 // The trees of a package's sources, or their first fault.
-fn trees_in(alloc: Global, path: &str, sources: &[Source]) -> Result<Trees, Stop>
+fn trees_in(alloc: Global, path: &str, sources: &[SourceFile]) -> Result<Trees, Stop>
     ensures { Settles trees_seen (or_fault (trees_of path.now (map source_of sources.now))) result }
 {
     match read_trees(alloc, path, sources) {
@@ -53,7 +53,7 @@ fn form_of_trees(alloc: Global, path: &str, trees: &Trees) -> Result<Form, Stop>
 
 /// The form of a package's sources, or their first fault, or the place of what isn't taken.
 #[tactic(auto, unfolding(crate::specs::Package::form_or))]
-pub fn form_in(alloc: Global, path: &str, sources: &[Source]) -> Result<Form, Stop>
+pub fn form_in(alloc: Global, path: &str, sources: &[SourceFile]) -> Result<Form, Stop>
     ensures settled { Settles (λ f. f) (form_or path.now (map source_of sources.now)) result }
     ensures own { IfOk result (λ f. f.path ≡ path.now) }
 {
@@ -67,7 +67,7 @@ pub fn form_in(alloc: Global, path: &str, sources: &[Source]) -> Result<Form, St
 
 /// The paths that the sources of a package import, whether they have a form or not; none where one
 /// of them has a fault.
-pub fn imports_in(alloc: Global, path: &str, sources: &[Source]) -> Result<Vec<String>, Stop>
+pub fn imports_in(alloc: Global, path: &str, sources: &[SourceFile]) -> Result<Vec<String>, Stop>
     ensures { Settles texts (Ok (imports_in path.now (map source_of sources.now))) result }
 {
     import_paths_are_valid();

@@ -12,7 +12,7 @@ use crate::files::{list_folder, read_file};
 use crate::names::{self, copy, file_in};
 use crate::stop::{Refusal, Stop};
 use std::alloc::Global;
-use ui_sources::{SOURCE_LIMIT, Source};
+use ui_sources::{SOURCE_LIMIT, SourceFile};
 use ui_store::Store;
 
 // Whether a name in a folder is that of a source: it ends in `.go`, and not in `_test.go`.
@@ -29,7 +29,7 @@ fn read_source<S: Store>(
     store: &mut S,
     folder: &str,
     part: &str,
-) -> Result<Source, Stop>
+) -> Result<SourceFile, Stop>
     ensures does { DoesTold source_of (λ told. read_source told (file_in folder.now part.now))
         (S.told store.old) (S.told store.new) result }
     ensures files { (S.told store.new).files ≡ (S.told store.old).files }
@@ -41,7 +41,7 @@ fn read_source<S: Store>(
     let name = file_in(alloc, folder, part)?;
     let asked = copy(alloc, &name)?;
     let bytes = read_file(alloc, store, asked, SOURCE_LIMIT)?;
-    Ok(Source { name, bytes })
+    Ok(SourceFile { name, bytes })
 }
 
 // Reads the sources among the names of a folder, in their order.
@@ -50,7 +50,7 @@ fn read_sources<S: Store>(
     store: &mut S,
     folder: &str,
     names: &[String],
-) -> Result<Vec<Source>, Stop>
+) -> Result<Vec<SourceFile>, Stop>
     ensures does { DoesTold sources_of
         (λ told. read_sources told folder.now [] (filter is_source (map string_bytes names.now)))
         (S.told store.old) (S.told store.new) result }
@@ -74,7 +74,7 @@ fn read_sources<S: Store>(
 
 /// Finds and reads the sources of a package, in the order in which the store lists them: ascending
 /// by name.
-pub fn find<S: Store>(alloc: Global, store: &mut S, path: &str) -> Result<Vec<Source>, Stop>
+pub fn find<S: Store>(alloc: Global, store: &mut S, path: &str) -> Result<Vec<SourceFile>, Stop>
     ensures does { DoesTold sources_of (λ told. find told (folder path.now))
         (S.told store.old) (S.told store.new) result }
     ensures files { (S.told store.new).files ≡ (S.told store.old).files }

@@ -24,11 +24,11 @@ use Rattle.ui_collect.specs.Lists.{type_rule, sig_rule, maybe_rule}
 use Rattle.ui_collect.specs.declared.before.Before.{Before}
 
 -- a source: its store name, and its tree
-pub record Source : Type 0 where
+pub record SourceTree : Type 0 where
   pub name : List ℕ
   pub tree : File
 
-abbrev pub source_of : FileTree → Source
+abbrev pub source_of : FileTree → SourceTree
 source_of f = record { name = f.file; tree = file_view f }
 
 -- a file, and the package that it is of: the package's name, and the names of the packages that it
@@ -134,14 +134,14 @@ abbrev pub tree_rule : Place → Before → File → Checks Before
 tree_rule at b f = clause_rule at f.package_name >>= λ _. steps (import_rule at) (opened b)
     f.imports >>= λ now. steps (decl_rule at) now f.decls
 
-abbrev pub place : List ℕ → Packages → Source → Place
+abbrev pub place : List ℕ → Packages → SourceTree → Place
 place home names s = record { file = s.name; home = home; names = names }
 
-abbrev pub file_rule : List ℕ → Packages → Before → Source → Checks Before
+abbrev pub file_rule : List ℕ → Packages → Before → SourceTree → Checks Before
 file_rule home names b s = tree_rule (place home names s) b s.tree
 
 -- the name that the first file gives
-abbrev pub package_of : List Source → List ℕ
+abbrev pub package_of : List SourceTree → List ℕ
 package_of [] = []
 package_of (s ∷ ss) = s.tree.package_name.text
 
@@ -149,5 +149,5 @@ abbrev pub nothing : Before
 nothing = record { names = []; imports = []; own = [] }
 
 -- the names of the files' declarations and imports, or the first fault
-unfoldable pub names_of : Packages → List Source → Checks Before
+unfoldable pub names_of : Packages → List SourceTree → Checks Before
 names_of names files = steps (file_rule (package_of files) names) nothing files

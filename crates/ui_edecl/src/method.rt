@@ -12,7 +12,7 @@ use ui_base::is_exported;
 use ui_eobj::PosEl;
 use ui_etype::{Sel, TypeUse, get_outer};
 use ui_frame::{NoMemory, Section};
-use ui_strpos::{Cause, ElementFault, ElementIn, ElementOut, Entry, Fields, get_name};
+use ui_strpos::{Cause, ElementFault, ElementIn, ElementOut, Fields, ListEntry, get_name};
 
 /// A method of a defined type.
 #[derive(Clone, Copy, PartialEq, Eq, Drop)]
@@ -76,7 +76,7 @@ fn get_sel(
     })
 }
 
-impl Entry for DeclaredMethodEl {
+impl ListEntry for DeclaredMethodEl {
     ghost use Rattle.std.specs.Prelude.{◌<◌, length};
     ghost use Rattle.ui_edecl.specs.Objects.{method_el};
     ghost use Rattle.ui_edecl.specs.DeclLaws.{method_el_lawful};

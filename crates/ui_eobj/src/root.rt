@@ -11,7 +11,7 @@ use std::cmp::Ordering;
 use ui_base::{Items, is_path};
 use ui_frame::{NoMemory, Section};
 use ui_strpos::{
-    Cause, Element, ElementFault, ElementIn, ElementOut, Entry, Fields, get_entries, get_list,
+    Cause, Element, ElementFault, ElementIn, ElementOut, Fields, ListEntry, get_entries, get_list,
     put_entries, put_list,
 };
 
@@ -150,7 +150,7 @@ fn get_print(input: &mut ElementIn<'_>) -> Result<u32, ElementFault>
     Ok(print)
 }
 
-impl Entry for BelowEl {
+impl ListEntry for BelowEl {
     ghost use Rattle.std.specs.Prelude.{◌<◌, length};
     ghost use Rattle.ui_eobj.specs.Roots.{below_entry};
     ghost use Rattle.ui_eobj.specs.ObjectLaws.{below_entry_lawful};

@@ -11,7 +11,7 @@ use std::alloc::Global;
 use std::cmp::Ordering;
 use ui_base::is_exported;
 use ui_frame::{NoMemory, Section};
-use ui_strpos::{Cause, ElementFault, ElementIn, ElementOut, Entry, Fields, get_name};
+use ui_strpos::{Cause, ElementFault, ElementIn, ElementOut, Fields, ListEntry, get_name};
 
 /// A method of an interface.
 #[derive(Clone, Copy, PartialEq, Eq, Hash, Drop)]
@@ -70,7 +70,7 @@ fn get_sel(input: &mut ElementIn<'_>, before: Option<&MethodEl>) -> Result<Sel, 
     })
 }
 
-impl Entry for MethodEl {
+impl ListEntry for MethodEl {
     ghost use Rattle.std.specs.Prelude.{◌<◌, length};
     ghost use Rattle.ui_etype.specs.Types.{method_el};
     ghost use Rattle.ui_etype.specs.TypeLaws.{method_el_lawful};

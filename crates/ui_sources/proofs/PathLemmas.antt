@@ -12,7 +12,7 @@ use Rattle.ui_pexpr.specs.declared.fault.ParseFault.{ParseFault}
 use Rattle.ui_pexpr.specs.Forms.{or_else}
 use Rattle.ui_base.specs.declared.fault.Fault.{Fault}
 use Rattle.ui_pdecl.specs.FileResult.{all_specs, bad_import, bad_spec, file_result, is_bad, result_of, with_paths}
-use Rattle.ui_sources.specs.Sources.{HasValidPaths, PathsAreValid, Source, SourceTree, Trees, bytes_of, parsed, size_of, tokens_in, tree_in, trees_of}
+use Rattle.ui_sources.specs.Sources.{HasValidPaths, PathsAreValid, SourceFile, SourceTree, Trees, bytes_of, parsed, size_of, tokens_in, tree_in, trees_of}
 use Rattle.ui_base.specs.Steps.{and_then, each}
 use Rattle.ui_base.proofs.StepLemmas.{each_all, went}
 
@@ -75,11 +75,11 @@ abbrev tree_or : File → Result SourceTree Fault → File
 tree_or f (Ok t) = t.tree
 tree_or f (Err fault) = f
 
-valid_parsed : (s : Source) (r : Result File ParseFault) (t : SourceTree) → ((g : File) → r ≡ Ok g → HasValidPaths g) → parsed s r ≡ Ok t → HasValidPaths t.tree
+valid_parsed : (s : SourceFile) (r : Result File ParseFault) (t : SourceTree) → ((g : File) → r ≡ Ok g → HasValidPaths g) → parsed s r ≡ Ok t → HasValidPaths t.tree
 valid_parsed s (Ok f) t good e = let q : f ≡ t.tree = ap (λ r. tree_or f r) e in subst HasValidPaths q (good f refl)
 valid_parsed s (Err x) t good e = absurd cc
 
-valid_tree : (own : List ℕ) (s : Source) (t : SourceTree) → tree_in own s ≡ Ok t → HasValidPaths t.tree
+valid_tree : (own : List ℕ) (s : SourceFile) (t : SourceTree) → tree_in own s ≡ Ok t → HasValidPaths t.tree
 valid_tree own s t e =
     let w = went (λ ts. parsed s (file_result own (bytes_of s) ts)) (tokens_in s) t e in
     valid_parsed s (file_result own (bytes_of s) w.x) t (valid_result own (bytes_of s) w.x) w.then
@@ -93,7 +93,7 @@ abbrev files_or : List SourceTree → Result Trees Fault → List SourceTree
 files_or files (Ok t) = t.files
 files_or files (Err fault) = files
 
-valid_files : (own : List ℕ) (sources : List Source) (size : ℕ) (r : Result (List SourceTree) Fault) (t : Trees) → r ≡ each (tree_in own) sources → and_then (λ files. Ok (record { size = size; files = files })) r ≡ Ok t → AllByRecursion IsValid t.files
+valid_files : (own : List ℕ) (sources : List SourceFile) (size : ℕ) (r : Result (List SourceTree) Fault) (t : Trees) → r ≡ each (tree_in own) sources → and_then (λ files. Ok (record { size = size; files = files })) r ≡ Ok t → AllByRecursion IsValid t.files
 valid_files own sources size (Ok files) t is e =
     let q : files ≡ t.files = ap (λ r. files_or files r) e in
     subst (AllByRecursion IsValid) q (each_all IsValid (tree_in own) (valid_tree own) sources files (sym is))

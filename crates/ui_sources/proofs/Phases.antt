@@ -5,16 +5,16 @@ use Rattle.ui_base.specs.declared.fault.CheckFault.TheVariants as check
 use Rattle.ui_scan.specs.declared.kind.Token.{Token}
 use Rattle.ui_base.specs.declared.fault.Fault.{Fault}
 use Rattle.ui_sources.specs.Choosing.{Gives}
-use Rattle.ui_sources.specs.Sources.{GivesTrees, Source, SourceTree, Trees, size_of, tokens_in, tree_in, trees_of}
+use Rattle.ui_sources.specs.Sources.{GivesTrees, SourceFile, SourceTree, Trees, size_of, tokens_in, tree_in, trees_of}
 use Rattle.ui_base.specs.Steps.{and_then, each}
 
 abbrev with_size : ℕ → Result (List SourceTree) Fault → Result Trees Fault
 with_size size r = and_then (λ files. Ok (record { size = size; files = files })) r
 
-abbrev after_size : List ℕ → List Source → ℕ → Result Trees Fault
+abbrev after_size : List ℕ → List SourceFile → ℕ → Result Trees Fault
 after_size own sources size = and_then (λ tokens. with_size size (each (tree_in own) sources)) (each tokens_in sources)
 
-module _ (own : List ℕ) (sources : List Source) where
+module _ (own : List ℕ) (sources : List SourceFile) where
   pub size_stops : (e : CheckFault) → Gives {A = ℕ} (λ n. n) (size_of sources) (Err e) → GivesTrees (trees_of own sources) (Err e)
   unfolding trees_of
   size_stops (check.Fault f) g = ap (and_then (after_size own sources)) g

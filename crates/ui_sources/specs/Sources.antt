@@ -24,12 +24,12 @@ use Rattle.ui_pexpr.specs.declared.fault.ParseFault.{ParseFault}
 use Rattle.ui_pexpr.specs.declared.fault.ParseFault.TheVariants as parse
 use Rattle.ui_pdecl.specs.FileResult.{all_specs, file_result}
 use Rattle.ui_base.specs.Steps.{and_then, each}
-use Rattle.ui_sources.specs.declared.source.Source.{Source as InMemory}
+use Rattle.ui_sources.specs.declared.source.SourceFile.{SourceFile as InMemory}
 use Rattle.ui_sources.specs.declared.source.Trees.{Trees as TreesInMemory}
 
 -- a source: its store name, and its bytes, or nothing where there are more than the limit
-abbrev pub Source : Type 0
-Source = List ℕ × Option (List ℕ)
+abbrev pub SourceFile : Type 0
+SourceFile = List ℕ × Option (List ℕ)
 
 -- a source's store name, and its tree
 pub record SourceTree : Type 0 where
@@ -56,7 +56,7 @@ count_limit = 256
 abbrev pub package_limit : ℕ
 package_limit = 16777216
 
-abbrev pub bytes_of : Source → List ℕ
+abbrev pub bytes_of : SourceFile → List ℕ
 bytes_of s = unwrap_or s.1 []
 
 -- ---- faults
@@ -73,7 +73,7 @@ abbrev pub spot_at : List ℕ → ℕ → Spot
 spot_at bytes at = record { line = (place_at bytes at).line; col = (place_at bytes at).col }
 
 -- a fault at an offset of a source
-abbrev pub fault_at : FaultKind → Source → ℕ → Fault
+abbrev pub fault_at : FaultKind → SourceFile → ℕ → Fault
 fault_at kind s at = fault_in kind s.0 (spot_at (bytes_of s) at)
 
 -- ---- size
@@ -83,27 +83,27 @@ is_long None = true
 is_long (Some bytes) = nat_lt source_limit (length bytes)
 
 -- a source that isn't too long
-abbrev pub measured : Source → Result Source Fault
+abbrev pub measured : SourceFile → Result SourceFile Fault
 measured s = if is_long s.1 then Err (fault_in kind.SourceTooLong s.0 front) else Ok s
 
 -- the bytes of sources together
-abbrev pub total : List Source → ℕ
+abbrev pub total : List SourceFile → ℕ
 total [] = 0
 total (s ∷ ss) = length (bytes_of s) + total ss
 
 -- more sources, or more bytes together, than a package may have
-abbrev pub is_large : List Source → Bool
+abbrev pub is_large : List SourceFile → Bool
 is_large sources = nat_lt count_limit (length sources) || nat_lt package_limit (total sources)
 
-abbrev pub first_name : List Source → List ℕ
+abbrev pub first_name : List SourceFile → List ℕ
 first_name [] = []
 first_name (s ∷ ss) = s.0
 
-abbrev pub package_size : List Source → Result ℕ Fault
+abbrev pub package_size : List SourceFile → Result ℕ Fault
 package_size sources = if is_large sources then Err (fault_in kind.PackageTooLarge (first_name sources) front) else Ok (total sources)
 
 -- the bytes of a package's sources together, where none of them is too long and the package isn't too large
-abbrev pub size_of : List Source → Result ℕ Fault
+abbrev pub size_of : List SourceFile → Result ℕ Fault
 size_of sources = and_then package_size (each measured sources)
 
 -- ---- scan
@@ -121,43 +121,43 @@ scan_kind scan.BadRune = kind.BadRune
 scan_kind scan.NewlineInString = kind.NewlineInString
 scan_kind scan.OpenString = kind.OpenString
 
-abbrev pub scanned : Source → Result (List Token) ScanFault → Result (List Token) Fault
+abbrev pub scanned : SourceFile → Result (List Token) ScanFault → Result (List Token) Fault
 scanned s (Ok tokens) = Ok tokens
 scanned s (Err fault) = Err (fault_at (scan_kind fault.kind) s fault.at)
 
 -- a source's tokens
-abbrev pub tokens_in : Source → Result (List Token) Fault
+abbrev pub tokens_in : SourceFile → Result (List Token) Fault
 tokens_in s = scanned s (tokens_of (bytes_of s))
 
 -- ---- parse
 
 -- want of memory is no file's result
-abbrev pub parse_fault : Source → ParseFault → Fault
+abbrev pub parse_fault : SourceFile → ParseFault → Fault
 parse_fault s (parse.Unexpected at) = fault_at kind.Unexpected s at
 parse_fault s (parse.TooDeep at) = fault_at kind.TooDeep s at
 parse_fault s (parse.Outside at form) = fault_at kind.Outside s at
 parse_fault s (parse.BadImportPath at) = fault_at kind.BadImportPath s at
 parse_fault s parse.NoMemory = fault_in kind.Unexpected s.0 front
 
-abbrev pub parsed : Source → Result File ParseFault → Result SourceTree Fault
+abbrev pub parsed : SourceFile → Result File ParseFault → Result SourceTree Fault
 parsed s (Ok file) = Ok (record { name = s.0; tree = file })
 parsed s (Err fault) = Err (parse_fault s fault)
 
 -- the tree of a source of the package of this path
-abbrev pub tree_in : List ℕ → Source → Result SourceTree Fault
+abbrev pub tree_in : List ℕ → SourceFile → Result SourceTree Fault
 tree_in own s = and_then (λ tokens. parsed s (file_result own (bytes_of s) tokens)) (tokens_in s)
 
 -- ---- all sources
 
 -- The trees of a package's sources, which stand in ascending order of name; or the first fault. First the size is
 -- decided, then the tokens of all sources are read, and then their trees.
-unfoldable pub trees_of : List ℕ → List Source → Result Trees Fault
+unfoldable pub trees_of : List ℕ → List SourceFile → Result Trees Fault
 trees_of own sources = and_then (λ size. and_then (λ tokens. and_then (λ files. Ok (record { size = size; files = files })) (each (tree_in own) sources)) (each tokens_in sources)) (size_of sources)
 
 -- ---- what the code reads and gives
 
 -- a source as it lies in memory
-abbrev pub source_of : InMemory → Source
+abbrev pub source_of : InMemory → SourceFile
 source_of s = (string_bytes s.name, option_map (λ v. v.items) s.bytes)
 
 -- a reading that gives this, or want of memory
@@ -176,4 +176,4 @@ HasValidPaths f = AllByRecursion (λ i. AllByRecursion (λ s. is_path s.path.tex
 
 -- the import paths of trees that are given are valid
 abbrev pub PathsAreValid : Type 0
-PathsAreValid = (own : List ℕ) (sources : List Source) (t : Trees) → trees_of own sources ≡ Ok t → AllByRecursion (λ s. HasValidPaths s.tree) t.files
+PathsAreValid = (own : List ℕ) (sources : List SourceFile) (t : Trees) → trees_of own sources ≡ Ok t → AllByRecursion (λ s. HasValidPaths s.tree) t.files

@@ -4,7 +4,7 @@ ghost use Rattle.ui_sources.specs.Choosing.{IsFault, spot_past};
 ghost use Rattle.ui_sources.specs.Sources as spec;
 ghost use Rattle.ui_sources.specs.Sources.{source_of};
 
-use crate::source::Source;
+use crate::source::SourceFile;
 use std::alloc::Global;
 use ui_base::{CheckFault, Fault, FaultKind, NoMemory, Pos, Spot, Text};
 
@@ -70,7 +70,7 @@ fn spot_at(bytes: &[u8], at: usize) -> Spot
 }
 
 /// The end of a reading with a fault at an offset of a source.
-pub(crate) fn fault_at(alloc: Global, kind: FaultKind, source: &Source, at: usize) -> CheckFault
+pub(crate) fn fault_at(alloc: Global, kind: FaultKind, source: &SourceFile, at: usize) -> CheckFault
     requires { spec.is_long (source_of source.now).1 ≡ false }
     ensures { IsFault (spec.fault_at kind (source_of source.now) at) result }
 {

@@ -10,5 +10,5 @@ mod source;
 mod trees;
 
 pub use laws::import_paths_are_valid;
-pub use source::{SOURCE_LIMIT, Source, Trees};
+pub use source::{SOURCE_LIMIT, SourceFile, Trees};
 pub use trees::read_trees;

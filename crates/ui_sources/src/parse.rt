@@ -7,7 +7,7 @@ ghost use Rattle.ui_sources.specs.Sources.{bytes_of, source_of, source_tree};
 ghost use Rattle.ui_base.specs.Steps.{each};
 
 use crate::fault::fault_at;
-use crate::source::Source;
+use crate::source::SourceFile;
 use std::alloc::Global;
 use ui_base::{CheckFault, FaultKind, Text};
 use ui_pdecl::parse_file;
@@ -16,7 +16,7 @@ use ui_scan::{Token, scan_of_a_file};
 use ui_tree::FileTree;
 
 // The end of a reading with a fault of parsing in a source.
-fn parse_fault(alloc: Global, source: &Source, fault: ParseFault) -> CheckFault
+fn parse_fault(alloc: Global, source: &SourceFile, fault: ParseFault) -> CheckFault
     requires { spec.is_long (source_of source.now).1 ≡ false }
     ensures { IsParseFault (source_of source.now) fault result }
 {
@@ -34,7 +34,7 @@ fn parse_fault(alloc: Global, source: &Source, fault: ParseFault) -> CheckFault
 fn parse(
     alloc: Global,
     own: &Text,
-    source: &Source,
+    source: &SourceFile,
     tokens: &[Token],
 ) -> Result<FileTree, CheckFault>
     requires measured { spec.is_long (source_of source.now).1 ≡ false }
@@ -53,7 +53,7 @@ fn parse(
 pub(crate) fn parse_all(
     alloc: Global,
     own: &Text,
-    sources: &[Source],
+    sources: &[SourceFile],
     tokens: &[Vec<Token>],
 ) -> Result<Vec<FileTree>, CheckFault>
     requires measured { AreMeasured (map source_of sources.now) }

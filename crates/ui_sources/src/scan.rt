@@ -6,7 +6,7 @@ ghost use Rattle.ui_sources.specs.Sources.{source_of};
 ghost use Rattle.ui_base.specs.Steps.{each};
 
 use crate::fault::fault_at;
-use crate::source::Source;
+use crate::source::SourceFile;
 use std::alloc::Global;
 use ui_base::{CheckFault, FaultKind};
 use ui_scan::{ScanKind, Token, TokensFault, tokens};
@@ -31,7 +31,7 @@ fn kind_of(kind: ScanKind) -> FaultKind
 }
 
 // The tokens of a source.
-fn scan(alloc: Global, source: &Source) -> Result<Vec<Token>, CheckFault>
+fn scan(alloc: Global, source: &SourceFile) -> Result<Vec<Token>, CheckFault>
     requires { spec.is_long (source_of source.now).1 ≡ false }
     ensures { Gives (λ v. v.items) (spec.tokens_in (source_of source.now)) result }
 {
@@ -45,7 +45,7 @@ fn scan(alloc: Global, source: &Source) -> Result<Vec<Token>, CheckFault>
 }
 
 /// The tokens of each source.
-pub(crate) fn scan_all(alloc: Global, sources: &[Source]) -> Result<Vec<Vec<Token>>, CheckFault>
+pub(crate) fn scan_all(alloc: Global, sources: &[SourceFile]) -> Result<Vec<Vec<Token>>, CheckFault>
     requires { AreMeasured (map source_of sources.now) }
     ensures { Gives (λ v. map (λ tokens. tokens.items) v.items) (each spec.tokens_in (map source_of sources.now)) result }
 {

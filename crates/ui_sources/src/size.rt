@@ -6,7 +6,7 @@ ghost use Rattle.ui_sources.specs.Sources.{source_of};
 ghost use Rattle.ui_base.specs.Steps.{each};
 
 use crate::fault::{FRONT, fault_in};
-use crate::source::Source;
+use crate::source::SourceFile;
 use std::alloc::Global;
 use ui_base::{CheckFault, FaultKind};
 
@@ -17,7 +17,7 @@ const COUNT_LIMIT: usize = 256;
 const BYTES_LIMIT: usize = 16777216;
 
 // Finds that no source is too long.
-fn measure(alloc: Global, sources: &[Source]) -> Result<(), CheckFault>
+fn measure(alloc: Global, sources: &[SourceFile]) -> Result<(), CheckFault>
     ensures { Gives (λ _. map source_of sources.now) (each spec.measured (map source_of sources.now)) result }
 {
     for source in sources {
@@ -30,7 +30,7 @@ fn measure(alloc: Global, sources: &[Source]) -> Result<(), CheckFault>
 }
 
 // The bytes of sources together, or nothing where there are more bytes or more sources than a package may have.
-fn size_within(sources: &[Source]) -> Option<usize>
+fn size_within(sources: &[SourceFile]) -> Option<usize>
     ensures { result ≡ size_within (map source_of sources.now) }
 {
     if sources.len() > COUNT_LIMIT {
@@ -48,7 +48,7 @@ fn size_within(sources: &[Source]) -> Option<usize>
 }
 
 // The name of the first source.
-fn first_name(sources: &[Source]) -> &str
+fn first_name(sources: &[SourceFile]) -> &str
     ensures { result.now ≡ spec.first_name (map source_of sources.now) }
 {
     match sources {
@@ -58,7 +58,7 @@ fn first_name(sources: &[Source]) -> &str
 }
 
 /// The bytes of a package's sources together.
-pub(crate) fn package_size(alloc: Global, sources: &[Source]) -> Result<usize, CheckFault>
+pub(crate) fn package_size(alloc: Global, sources: &[SourceFile]) -> Result<usize, CheckFault>
     ensures gives { Gives (λ size. size) (spec.size_of (map source_of sources.now)) result }
     ensures measured { OnOk result (AreMeasured (map source_of sources.now)) }
 {

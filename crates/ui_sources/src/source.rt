@@ -9,7 +9,7 @@ pub const SOURCE_LIMIT: usize = 1048576;
 
 /// A source: its name in the store, and its bytes, or nothing where there are more than the limit.
 #[derive(Drop)]
-pub struct Source {
+pub struct SourceFile {
     pub name: String,
     pub bytes: Option<Vec<u8>>,
 }
@@ -21,7 +21,7 @@ pub struct Trees {
     pub files: Vec<FileTree>,
 }
 
-impl Source {
+impl SourceFile {
     /// The bytes, of which there are none where there are more than the limit.
     pub(crate) fn bytes(&self) -> &[u8]
         ensures { result.now ≡ spec.bytes_of (spec.source_of self.now) }

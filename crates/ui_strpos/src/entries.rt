@@ -12,7 +12,7 @@ use ui_frame::NoMemory;
 
 /// What stands as an entry of a list in which each entry is tested by the one before it, as where the list has to
 /// ascend.
-pub trait Entry: Sized + Drop {
+pub trait ListEntry: Sized + Drop {
     // The grammar after an entry, or after none.
     ghost form: { Option Self → Format Self };
 
@@ -38,7 +38,7 @@ pub trait Entry: Sized + Drop {
 }
 
 /// Writes a count, and so many entries.
-pub fn put_entries<T: Entry>(
+pub fn put_entries<T: ListEntry>(
     alloc: Global,
     out: &mut ElementOut,
     list: &[T],
@@ -53,7 +53,7 @@ pub fn put_entries<T: Entry>(
 }
 
 /// Reads a count, and so many entries, each after the one before.
-pub fn get_entries<T: Entry>(
+pub fn get_entries<T: ListEntry>(
     alloc: Global,
     input: &mut ElementIn<'_>,
 ) -> Result<Vec<T>, ElementFault>
@@ -64,7 +64,7 @@ pub fn get_entries<T: Entry>(
     so_many(alloc, input, count)
 }
 
-fn so_many<T: Entry>(
+fn so_many<T: ListEntry>(
     alloc: Global,
     input: &mut ElementIn<'_>,
     count: u64,

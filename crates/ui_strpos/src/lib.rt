@@ -19,7 +19,7 @@ mod shape;
 mod target;
 
 pub use element::{Element, one_form, own_table, read_element, write_element};
-pub use entries::{Entry, get_entries, put_entries};
+pub use entries::{ListEntry, get_entries, put_entries};
 pub use fault::{Cause, ElementFault};
 pub use fields::{Fields, get_list, get_times, put_list, put_times};
 pub use input::ElementIn;

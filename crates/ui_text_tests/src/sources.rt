@@ -3,17 +3,17 @@
 use std::alloc::{AllocError, Global};
 use std::test::Fail;
 use ui_base::{CheckFault, Fault, NoMemory};
-use ui_sources::{SOURCE_LIMIT, Source, read_trees};
+use ui_sources::{SOURCE_LIMIT, SourceFile, read_trees};
 
-fn source(alloc: Global, name: &str, text: &str) -> Result<Source, NoMemory> {
-    Ok(Source {
+fn source(alloc: Global, name: &str, text: &str) -> Result<SourceFile, NoMemory> {
+    Ok(SourceFile {
         name: String::from_str(alloc, name)?,
         bytes: Some(Vec::from_slice(alloc, text.as_bytes())?),
     })
 }
 
 // The sources of a text, of which each begins behind a `~`, with its name on the first line.
-fn sources_of(alloc: Global, text: &str) -> Result<Vec<Source>, NoMemory> {
+fn sources_of(alloc: Global, text: &str) -> Result<Vec<SourceFile>, NoMemory> {
     let mut sources = Vec::new(alloc);
     for part in text.split('~') {
         if let Some((name, body)) = part.split_once('|') {
@@ -31,7 +31,7 @@ fn words_of(alloc: Global, fault: &Fault) -> Result<String, NoMemory> {
 }
 
 // What comes of the sources of a package of the path `p/x`, in words.
-fn outcome(alloc: Global, sources: &[Source]) -> Result<String, NoMemory> {
+fn outcome(alloc: Global, sources: &[SourceFile]) -> Result<String, NoMemory> {
     match read_trees(alloc, "p/x", sources) {
         Ok(trees) => format!(in alloc; "{} bytes, {} files", trees.size, trees.files.len()),
         Err(CheckFault::Fault(fault)) => words_of(alloc, &fault),
@@ -81,7 +81,7 @@ fn cases(rt: HostRuntime) -> Result<(), Fail> {
 }
 
 // So many sources with one fault of parsing each.
-fn many(alloc: Global, count: usize) -> Result<Vec<Source>, NoMemory> {
+fn many(alloc: Global, count: usize) -> Result<Vec<SourceFile>, NoMemory> {
     let mut sources = Vec::new(alloc);
     for _i in 0..count {
         sources.push(source(alloc, "a", "x")?)?;
@@ -90,12 +90,12 @@ fn many(alloc: Global, count: usize) -> Result<Vec<Source>, NoMemory> {
 }
 
 // A source of so many blanks.
-fn blank(alloc: Global, count: usize) -> Result<Source, NoMemory> {
+fn blank(alloc: Global, count: usize) -> Result<SourceFile, NoMemory> {
     let mut bytes = Vec::new(alloc);
     for _i in 0..count {
         bytes.push(b' ')?;
     }
-    Ok(Source {
+    Ok(SourceFile {
         name: String::from_str(alloc, "b")?,
         bytes: Some(bytes),
     })
@@ -108,7 +108,7 @@ fn numbers_of_sources(rt: HostRuntime) -> Result<(), Fail> {
     assert_eq!(rt; outcome(alloc, &most)?.as_str(), "a:1:1 Unexpected");
     let mut more = many(alloc, 257)?;
     assert_eq!(rt; outcome(alloc, &more)?.as_str(), "a:1:1 PackageTooLarge");
-    more.push(Source {
+    more.push(SourceFile {
         name: String::from_str(alloc, "b")?,
         bytes: None,
     })?;

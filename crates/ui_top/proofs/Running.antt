@@ -16,7 +16,7 @@ use Rattle.ui_top.specs.Outcome.{Outcome, Command, Build, Dump, outcome, plan_of
 use Rattle.ui_build.specs.Stops.{State, seen, Ends, Stops, DoesStop, Does, DoesTold, HasCause, StopCause, refusal_of}
 use Rattle.ui_top.specs.Ends.{Answered, EndsBy, EndsAnswered, EndsStopped, status_of, stop_line, answers_status, answers_line}
 use Rattle.ui_build.specs.Heard.{Hears}
-use Rattle.ui_top.specs.Scene.{Scene, Said, Reached, Excused, Reaches, Refuses, RefusedBy, Gives, Exported, RefusesPackage, FailsWriting, Caused, Runs, Completes, IsExcused}
+use Rattle.ui_top.specs.Scene.{Scene, Said, Reached, Excused, Reaches, Refuses, RefusedBy, ComesTo, Exported, RefusesPackage, FailsWriting, Caused, Runs, Completes, IsExcused}
 use Rattle.ui_top.specs.declared.answers.Unanswered.{Unanswered}
 use Rattle.ui_top.specs.declared.answers.Unanswered.TheVariants as unanswered
 use Rattle.ui_top.specs.declared.status.Status.{Status}
@@ -93,7 +93,7 @@ refusal_caused command old new (Stale at first second) may by = refuses_package 
 
 -- a command that ended so by what it heard
 abbrev CommandHears : Command → Scene → Scene → Result Export Stop → Type 0
-CommandHears command old new result = Hears (Gives command) (RefusedBy command) old.store new.store result
+CommandHears command old new result = Hears (ComesTo command) (RefusedBy command) old.store new.store result
 
 fails_writing : (command : Command) (old new : Scene) (name : String Global) → MayStop command (stop.WriteFault name) → StopCause old.store new.store (stop.WriteFault name) → new.out ≡ old.out → Said (stop_line (stop.WriteFault name)) old new → FailsWriting command old new
 fails_writing (Build path queries) old new name may cause out said = (cause.0, (string_bytes name, cause.1, said), out)

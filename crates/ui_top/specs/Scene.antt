@@ -97,15 +97,15 @@ pub record Refuses (command : Command) (old new : Scene) (ends : Status) : Type 
 
 -- What a command hears that comes to this export: a build, whose linked file as it was heard last stands for it, or that
 -- file alone.
-abbrev pub Gives : Command → Export → List Hearing → Type 0
-Gives (Build path queries) export heard = Builds path export heard
-Gives (Dump path queries) export heard = Dumps path export heard
+abbrev pub ComesTo : Command → Export → List Hearing → Type 0
+ComesTo (Build path queries) export heard = Builds path export heard
+ComesTo (Dump path queries) export heard = Dumps path export heard
 
 -- What was heard comes to this export.
 pub record Exported (command : Command) (export : Export) (old new : Scene) : Type 0 where
   pub heard : List Hearing
   pub told : new.store.heard ≡ more old.store.heard heard
-  pub gives : Gives command export heard
+  pub gives : ComesTo command export heard
 
 -- The queries were answered by the linked file as it was heard.
 pub record Answers (command : Command) (old new : Scene) (ends : Status) : Type 0 where

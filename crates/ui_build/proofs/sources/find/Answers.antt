@@ -4,7 +4,7 @@ use Rattle.std.proofs.lemmas.Grind.{common_steps}
 use Rattle.std.proofs.lemmas.Result.{err_from_is_err_and}
 use Rattle.ui_store.specs.Files.{texts}
 use Rattle.ui_build.specs.Plan.{NoFile, Plan, ◌>>=◌}
-use Rattle.ui_sources.specs.Sources.{Source}
+use Rattle.ui_sources.specs.Sources.{SourceFile}
 use Rattle.ui_build.specs.Package.{folder, list_folder, read_sources, some_source, is_source, find}
 use Rattle.ui_build.specs.Sources.{sources_of}
 use Rattle.ui_build.specs.Stops.{state, DoesSeen}
@@ -16,7 +16,7 @@ use Rattle.std.specs.Prelude.{String, Vec}
 use Rattle.std.specs.declared.alloc.Global.{Global}
 use Rattle.ui_build.specs.Heard.{HasListed, ReadsSources, FindsSources}
 use Rattle.ui_build.specs.Refused.{LacksFolder, LacksSource, LacksSources}
-use Rattle.ui_sources.specs.declared.source.Source.{Source as InMemory}
+use Rattle.ui_sources.specs.declared.source.SourceFile.{SourceFile as InMemory}
 use Rattle.ui_build.proofs.Hearing.{heard_none, heard_then, find_unlisted, find_unread, find_empty, finds}
 use Rattle.ui_build.proofs.sources.find.Goals as goal
 
@@ -52,7 +52,7 @@ pub returns-then-is_empty-clause-does : goal.returns-then-is_empty-clause-does
 returns-then-is_empty-clause-does g c =
     let dir = folder c.args.path.now in
     let none : length c.in_ok-sources.sources.items ≡ 0 = grind (arith, common_steps) in
-    let P : Plan (List Source) → Type 0 = λ q. DoesSeen sources_of (λ _. q) (state (g.S.Store.told c.read_sources.new.store).files (g.S.Store.told c.read_sources.new.store).asked) (state (g.S.Store.told c.read_sources.new.store).files (g.S.Store.told c.read_sources.new.store).asked) (Err (stop.Refused (told.NoFile c.in_ok-folder.folder))) in
+    let P : Plan (List SourceFile) → Type 0 = λ q. DoesSeen sources_of (λ _. q) (state (g.S.Store.told c.read_sources.new.store).files (g.S.Store.told c.read_sources.new.store).asked) (state (g.S.Store.told c.read_sources.new.store).files (g.S.Store.told c.read_sources.new.store).asked) (Err (stop.Refused (told.NoFile c.in_ok-folder.folder))) in
     told_then texts sources_of (λ told. list_folder told dir) (λ told names. read_sources told dir [] (filter is_source names) >>= λ sources. some_source dir sources) _ _ _ _ (state (g.S.Store.told c.read_sources.new.store).files (g.S.Store.told c.read_sources.new.store).asked) c.in_ok-names.names (Err (stop.Refused (told.NoFile c.in_ok-folder.folder))) c.in_ok-names.ensures.files
     (rw (c.in_ok-asked.ensures, c.in_ok-folder.ensures) at c.in_ok-names.ensures.does)
     (told_then sources_of sources_of (λ told. read_sources told dir [] (filter is_source (texts c.in_ok-names.names))) (λ told sources. some_source dir sources) _ _ _ _ (state (g.S.Store.told c.read_sources.new.store).files (g.S.Store.told c.read_sources.new.store).asked) c.in_ok-sources.sources (Err (stop.Refused (told.NoFile c.in_ok-folder.folder))) c.in_ok-sources.ensures.files
@@ -63,7 +63,7 @@ pub returns-clause-does : goal.returns-clause-does
 returns-clause-does g c =
     let dir = folder c.args.path.now in
     let some : 0 < length c.in_ok-sources.sources.items = grind (arith, common_steps) in
-    let P : Plan (List Source) → Type 0 = λ q. DoesSeen sources_of (λ _. q) (state (g.S.Store.told c.read_sources.new.store).files (g.S.Store.told c.read_sources.new.store).asked) (state (g.S.Store.told c.read_sources.new.store).files (g.S.Store.told c.read_sources.new.store).asked) (Ok c.in_ok-sources.sources) in
+    let P : Plan (List SourceFile) → Type 0 = λ q. DoesSeen sources_of (λ _. q) (state (g.S.Store.told c.read_sources.new.store).files (g.S.Store.told c.read_sources.new.store).asked) (state (g.S.Store.told c.read_sources.new.store).files (g.S.Store.told c.read_sources.new.store).asked) (Ok c.in_ok-sources.sources) in
     told_then texts sources_of (λ told. list_folder told dir) (λ told names. read_sources told dir [] (filter is_source names) >>= λ sources. some_source dir sources) _ _ _ _ (state (g.S.Store.told c.read_sources.new.store).files (g.S.Store.told c.read_sources.new.store).asked) c.in_ok-names.names (Ok c.in_ok-sources.sources) c.in_ok-names.ensures.files
     (rw (c.in_ok-asked.ensures, c.in_ok-folder.ensures) at c.in_ok-names.ensures.does)
     (told_then sources_of sources_of (λ told. read_sources told dir [] (filter is_source (texts c.in_ok-names.names))) (λ told sources. some_source dir sources) _ _ _ _ (state (g.S.Store.told c.read_sources.new.store).files (g.S.Store.told c.read_sources.new.store).asked) c.in_ok-sources.sources (Ok c.in_ok-sources.sources) c.in_ok-sources.ensures.files

@@ -9,7 +9,7 @@ use Rattle.ui_build.proofs.Steps.{told_none, told_stop, told_then, told_done}
 use Rattle.std.proofs.Common.{refl, string_bytes}
 use Rattle.ui_build.specs.Heard.{HasRead}
 use Rattle.ui_build.specs.Refused.{LacksFile}
-use Rattle.ui_sources.specs.declared.source.Source.{Source as InMemory}
+use Rattle.ui_sources.specs.declared.source.SourceFile.{SourceFile as InMemory}
 use Rattle.ui_build.specs.declared.stop.Stop.TheVariants as stop
 use Rattle.ui_build.proofs.Hearing.{heard_none, heard_same, heard_value}
 use Rattle.ui_build.proofs.sources.read_source.Goals as goal

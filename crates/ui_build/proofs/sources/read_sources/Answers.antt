@@ -1,7 +1,7 @@
 use Rattle.std.proofs.Common.{◌≡◌, refl, ◌∙◌, ◌+◌, ◌++◌, ap, sym, subst, arith, string_bytes, map, List, [], ◌∷◌}
 use Rattle.std.proofs.lemmas.List.{map-append}
 use Rattle.std.proofs.lemmas.Result.{err_from_is_err_and}
-use Rattle.ui_sources.specs.Sources.{Source, source_of}
+use Rattle.ui_sources.specs.Sources.{SourceFile, source_of}
 use Rattle.ui_build.specs.Package.{is_source, file_in}
 use Rattle.ui_build.specs.Sources.{sources_of}
 use Rattle.ui_build.specs.Stops.{state}
@@ -11,7 +11,7 @@ use Rattle.std.specs.declared.alloc.Global.{Global}
 use Rattle.std.proofs.lemmas.List.{take_all}
 use Rattle.ui_build.specs.Heard.{HasRead, ReadsSources}
 use Rattle.ui_build.specs.Refused.{LacksFile, LacksSource}
-use Rattle.ui_sources.specs.declared.source.Source.{Source as InMemory}
+use Rattle.ui_sources.specs.declared.source.SourceFile.{SourceFile as InMemory}
 use Rattle.ui_build.proofs.Hearing.{ReadSoFar, so_far_first, so_far_past, so_far_next, so_far_stop, so_far_none, so_far_last}
 use Rattle.ui_build.proofs.sources.read_sources.Goals as goal
 
@@ -29,8 +29,8 @@ pub loop-name-preserved : goal.loop-name-preserved
 loop-name-preserved g c =
     let here = c.as_str.ensures.value ∙ ap string_bytes c.name-item.is in
     let there = c.as_str-in-loop-name.ensures.value ∙ ap string_bytes c.name-item.is in
-    let P : List Source → Type 0 = λ ss. Continues c.args.folder.now c.args.names.now (state (g.S.Store.told c.args.store.now).files (g.S.Store.told c.args.store.now).asked) (c.loop-name.name-index + 1) ss (state (g.S.Store.told c.read_source.new.store).files (g.S.Store.told c.read_source.new.store).asked) in
-    let Q : List Source → Type 0 = λ ss. ReadSoFar c.args.folder.now c.args.names.now (c.loop-name.name-index + 1) ss (g.S.Store.told c.args.store.now).heard (g.S.Store.told c.read_source.new.store).heard in
+    let P : List SourceFile → Type 0 = λ ss. Continues c.args.folder.now c.args.names.now (state (g.S.Store.told c.args.store.now).files (g.S.Store.told c.args.store.now).asked) (c.loop-name.name-index + 1) ss (state (g.S.Store.told c.read_source.new.store).files (g.S.Store.told c.read_source.new.store).asked) in
+    let Q : List SourceFile → Type 0 = λ ss. ReadSoFar c.args.folder.now c.args.names.now (c.loop-name.name-index + 1) ss (g.S.Store.told c.args.store.now).heard (g.S.Store.told c.read_source.new.store).heard in
     record {
       files = c.in_ok-source.ensures.files ∙ c.loop-name.invariant.files;
       heard = subst Q (sym (ap (map source_of) c.in_ok-push.ensures.items ∙ map-append source_of c.loop-name.sources.items (c.in_ok-source.source ∷ [])))
@@ -56,7 +56,7 @@ returns-in_err-push-clause-does g c =
     let p = err_from_is_err_and c.from_residual-in_err-push.result c.from_residual-in_err-push.ensures.1 in
     let here = c.as_str.ensures.value ∙ ap string_bytes c.name-item.is in
     let there = c.as_str-in-loop-name.ensures.value ∙ ap string_bytes c.name-item.is in
-    let P : List Source → Type 0 = λ ss. Continues c.args.folder.now c.args.names.now (state (g.S.Store.told c.args.store.now).files (g.S.Store.told c.args.store.now).asked) (c.loop-name.name-index + 1) ss (state (g.S.Store.told c.read_source.new.store).files (g.S.Store.told c.read_source.new.store).asked) in
+    let P : List SourceFile → Type 0 = λ ss. Continues c.args.folder.now c.args.names.now (state (g.S.Store.told c.args.store.now).files (g.S.Store.told c.args.store.now).asked) (c.loop-name.name-index + 1) ss (state (g.S.Store.told c.read_source.new.store).files (g.S.Store.told c.read_source.new.store).asked) in
     rw (p.1, p.2)
     (continues_none c.args.folder.now c.args.names.now (state (g.S.Store.told c.args.store.now).files (g.S.Store.told c.args.store.now).asked) (g.S.Store.told c.read_source.new.store).files (g.S.Store.told c.read_source.new.store).asked (c.loop-name.name-index + 1) (sources_of c.loop-name.sources ++ source_of c.in_ok-source.source ∷ [])
     (continues_next c.args.folder.now c.args.names.now (state (g.S.Store.told c.args.store.now).files (g.S.Store.told c.args.store.now).asked) (g.S.Store.told c.loop-name.store).files (g.S.Store.told c.read_source.new.store).files (g.S.Store.told c.loop-name.store).asked (g.S.Store.told c.read_source.new.store).asked c.loop-name.name-index c.name-item.result (sources_of c.loop-name.sources) c.in_ok-source.source
@@ -93,8 +93,8 @@ pub loop-name-init : goal.loop-name-init
 loop-name-init g c =
     let empty : [] ≡ sources_of c.new-sources.result = sym (ap (map source_of) c.new-sources.ensures.items) in
     let now = state (g.S.Store.told c.args.store.now).files (g.S.Store.told c.args.store.now).asked in
-    let P : List Source → Type 0 = λ ss. Continues c.args.folder.now c.args.names.now now 0 ss now in
-    let Q : List Source → Type 0 = λ ss. ReadSoFar c.args.folder.now c.args.names.now 0 ss (g.S.Store.told c.args.store.now).heard (g.S.Store.told c.args.store.now).heard in
+    let P : List SourceFile → Type 0 = λ ss. Continues c.args.folder.now c.args.names.now now 0 ss now in
+    let Q : List SourceFile → Type 0 = λ ss. ReadSoFar c.args.folder.now c.args.names.now 0 ss (g.S.Store.told c.args.store.now).heard (g.S.Store.told c.args.store.now).heard in
     record {
       files = refl;
       heard = subst Q empty (so_far_first c.args.folder.now c.args.names.now (g.S.Store.told c.args.store.now).heard);
