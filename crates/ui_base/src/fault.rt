@@ -94,7 +94,8 @@ pub enum FaultKind {
     TooLarge,
 }
 
-/// The first fault of a package: its kind, its place, and the name that it speaks of, which is empty where it has none.
+/// The first fault of a package: its kind, its place, and the name that it speaks of, which is
+/// empty where it has none.
 #[derive(Drop)]
 pub struct Fault {
     pub kind: FaultKind,

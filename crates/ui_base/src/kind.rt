@@ -1,4 +1,5 @@
-/// A basic kind of type. Go specification, "Types" (boolean, numeric and string types) and "Constants" (untyped kinds).
+/// A basic kind of type. Go specification, "Types" (boolean, numeric and string types) and
+/// "Constants" (untyped kinds).
 #[derive(Clone, Copy, Debug, PartialEq, Eq, Hash)]
 pub enum Basic {
     Bool,

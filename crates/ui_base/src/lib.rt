@@ -1,5 +1,5 @@
-//! What the crates above share and that needs no table of types: texts, names, paths, places, faults, values, basic
-//! kinds and operators.
+//! What the crates above share and that needs no table of types: texts, names, paths, places,
+//! faults, values, basic kinds and operators.
 #![tactic(auto)]
 
 mod chars;

@@ -9,8 +9,8 @@ use crate::items::Items;
 use crate::text::{NoMemory, Text};
 use std::alloc::Global;
 
-/// A declared name: its package's path, and the name itself. The name of a field or method has the empty path exactly
-/// where it is exported.
+/// A declared name: its package's path, and the name itself. The name of a field or method has the
+/// empty path exactly where it is exported.
 #[derive(Debug, Drop, PartialEq, Eq, Hash)]
 pub struct Name {
     pub path: Text,
@@ -106,7 +106,8 @@ fn is_identifier(text: &str) -> bool
     begins_with_letter(text) && has_letters_and_digits(text)
 }
 
-/// Whether the bytes are a name: an identifier in UTF-8 that is no keyword. Go specification, "Identifiers".
+/// Whether the bytes are a name: an identifier in UTF-8 that is no keyword. Go specification,
+/// "Identifiers".
 pub fn is_name(bytes: &[u8]) -> bool
     ensures { result ≡ names.is_name bytes.now }
 {
@@ -126,7 +127,8 @@ fn begins_with_upper(text: &str) -> bool
     }
 }
 
-/// Whether the bytes begin with a character of category Lu. Go specification, "Exported identifiers".
+/// Whether the bytes begin with a character of category Lu. Go specification, "Exported
+/// identifiers".
 #[tactic(auto, unfolding(crate::specs::Names::is_exported))]
 pub fn is_exported(bytes: &[u8]) -> bool
     ensures { result ≡ names.is_exported bytes.now }

@@ -40,8 +40,9 @@ fn is_reserved(path: &[u8]) -> bool
     path == b"builtin".as_slice() || path == b"unsafe".as_slice() || path == b"C".as_slice()
 }
 
-/// Whether the bytes are a valid package path: one or more segments of ASCII letters, digits, `_`, `-` and `.`, none
-/// of them `.` or `..`, joined by `/`; at most 255 bytes; not `builtin`, `unsafe` or `C`.
+/// Whether the bytes are a valid package path: one or more segments of ASCII letters, digits, `_`,
+/// `-` and `.`, none of them `.` or `..`, joined by `/`; at most 255 bytes; not `builtin`, `unsafe`
+/// or `C`.
 #[tactic(auto, unfolding(crate::specs::Paths::is_path))]
 pub fn is_path(path: &[u8]) -> bool
     ensures { result ≡ paths.is_path path.now }

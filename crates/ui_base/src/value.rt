@@ -1,6 +1,7 @@
 use crate::text::Text;
 
-/// A place in a source file: its store name, and line and column, both from 1. A column counts bytes.
+/// A place in a source file: its store name, and line and column, both from 1. A column counts
+/// bytes.
 #[derive(Debug, Drop)]
 pub struct Pos {
     pub file: Text,

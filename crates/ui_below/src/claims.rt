@@ -10,7 +10,8 @@ use std::collections::BTreeMap;
 use ui_base::NoMemory;
 use ui_exports::{Below, Linked};
 
-// What is claimed about a path: the first fingerprint, the first other one, and whether it is imported directly.
+// What is claimed about a path: the first fingerprint, the first other one, and whether it is
+// imported directly.
 #[derive(Clone, Copy, Debug, PartialEq, Eq, Drop)]
 pub struct Held {
     pub print: [u8; 8],
@@ -60,7 +61,8 @@ fn add_claim(
     print: [u8; 8],
     direct: bool,
 ) -> Result<(), NoMemory>
-    ensures { OnOk result (holding by_path.new.entries ≡ with_claim (holding by_path.old.entries) (claim path.now print direct)) }
+    ensures { OnOk result (holding by_path.new.entries ≡ with_claim (holding by_path.old.entries)
+        (claim path.now print direct)) }
 {
     let held = merge(held_of(by_path, path), print, direct);
     by_path.insert(Vec::from_slice(alloc, path)?, held)?;
@@ -73,7 +75,8 @@ fn add_list(
     by_path: &mut BTreeMap<Vec<u8>, Held>,
     list: &[Below],
 ) -> Result<(), NoMemory>
-    ensures { OnOk result (holding by_path.new.entries ≡ with_claims (holding by_path.old.entries) (map indirect (map below list.now))) }
+    ensures { OnOk result (holding by_path.new.entries ≡ with_claims (holding by_path.old.entries)
+        (map indirect (map below list.now))) }
 {
     for below in list {
         add_claim(alloc, by_path, below.path.bytes(), below.print, false)?;
@@ -88,7 +91,8 @@ fn add_file(
     file: &Linked,
     print: [u8; 8],
 ) -> Result<(), NoMemory>
-    ensures { OnOk result (holding by_path.new.entries ≡ with_claims (holding by_path.old.entries) (claims_of file.now print)) }
+    ensures { OnOk result (holding by_path.new.entries ≡ with_claims (holding by_path.old.entries)
+        (claims_of file.now print)) }
 {
     add_claim(alloc, by_path, file.package.path(), print, true)?;
     add_list(alloc, by_path, &file.below)?;

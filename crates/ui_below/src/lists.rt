@@ -48,7 +48,8 @@ impl<T: Drop> From<AllocFailed<T>> for JoinFault {
 
 // The least path for which two fingerprints are named.
 fn stale_in(alloc: Global, by_path: &BTreeMap<Vec<u8>, Held>) -> Result<Option<JoinFault>, NoMemory>
-    ensures { IfOk result (λ o. apart_of o ≡ first_of (filter_map stale_in (entries (holding by_path.now.entries)))) }
+    ensures { IfOk result (λ o. apart_of o ≡ first_of
+        (filter_map stale_in (entries (holding by_path.now.entries)))) }
 {
     for (path, held) in by_path {
         if let Some(second) = held.other {
@@ -79,11 +80,13 @@ fn list_of(alloc: Global, by_path: &BTreeMap<Vec<u8>, Held>) -> Result<Vec<Below
     Ok(list)
 }
 
-/// The packages below the package `own`, by the linked files of its direct imports, each with its own fingerprint:
-/// ascending by path, each once, with its fingerprint and whether it is one of the imports.
+/// The packages below the package `own`, by the linked files of its direct imports, each with its
+/// own fingerprint: ascending by path, each once, with its fingerprint and whether it is one of the
+/// imports.
 ///
-/// Two fingerprints of one path are `Stale`: the least such path, with the first fingerprint named and the first that
-/// differs, file by file, each file's own before its list. Then, where `own` is among the paths, `Cycle`.
+/// Two fingerprints of one path are `Stale`: the least such path, with the first fingerprint named
+/// and the first that differs, file by file, each file's own before its list. Then, where `own` is
+/// among the paths, `Cycle`.
 pub fn join(
     alloc: Global,
     own: &[u8],

@@ -1,5 +1,6 @@
 // Linked files, read.
-ghost use Rattle.std.specs.Prelude.{◌≡◌, ◌≤◌, true, [], IfErr, IfOk, option_map, string_bytes, map, length};
+ghost use Rattle.std.specs.Prelude.{◌≡◌, ◌≤◌, true, [], IfErr, IfOk, option_map, string_bytes, map};
+ghost use Rattle.std.specs.Prelude.{length};
 ghost use Rattle.std.specs.List.{AllByRecursion, list_all};
 ghost use Rattle.ui_base.specs.Paths.{is_path};
 ghost use Rattle.ui_frame.specs.Laws.{IsBytes};

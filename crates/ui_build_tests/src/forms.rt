@@ -99,7 +99,8 @@ fn declare(
     Ok(())
 }
 
-// The first case, sources and what comes of them split by `|`, that comes out otherwise. Cases stand behind a `#`.
+// The first case, sources and what comes of them split by `|`, that comes out otherwise. Cases
+// stand behind a `#`.
 fn failing(alloc: Global, cases: &str) -> Result<Option<String>, NoMemory> {
     for case in cases.split('#') {
         if let Some((sources, wanted)) = case.split_once('|') {

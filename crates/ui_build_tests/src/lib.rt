@@ -1,5 +1,5 @@
-//! Tests of what builds are made of: stores and streams, the order of packages, the packages below, the counter of
-//! steps, and forms with their verdicts. Nothing stands here but tests.
+//! Tests of what builds are made of: stores and streams, the order of packages, the packages below,
+//! the counter of steps, and forms with their verdicts. Nothing stands here but tests.
 #![tactic(auto)]
 
 #[cfg(test)]

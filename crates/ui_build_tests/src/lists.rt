@@ -6,7 +6,8 @@ use ui_base::Text;
 use ui_below::{JoinFault, join};
 use ui_exports::{Below, Linked, NoMemory, Package};
 
-// A linked file of a package with this list: paths of one byte, each with the byte of its fingerprint.
+// A linked file of a package with this list: paths of one byte, each with the byte of its
+// fingerprint.
 fn file(alloc: Global, path: &[u8], list: &[(u8, u8)]) -> Result<Linked, NoMemory> {
     let package = Package::new(alloc, path, path)?;
     let mut below = Vec::new(alloc);

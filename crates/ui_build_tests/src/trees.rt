@@ -1,6 +1,6 @@
-//! Trees by hand, from lines: `import PATH`, `import (PATH`, `import NAME PATH`, `const NAME = SUM`, `const NAME int = SUM`,
-//! `const (NAME = SUM`, `var NAME = SUM`, `func NAME`. A term that begins with a bracket, a quote or `-` is a form of that
-//! kind around or of a number.
+//! Trees by hand, from lines: `import PATH`, `import (PATH`, `import NAME PATH`, `const NAME =
+//! SUM`, `const NAME int = SUM`, `const (NAME = SUM`, `var NAME = SUM`, `func NAME`. A term that
+//! begins with a bracket, a quote or `-` is a form of that kind around or of a number.
 
 use std::alloc::Global;
 use ui_base::{BinOp, Spot, Text, Value};

@@ -1,4 +1,5 @@
-// Bitwise operators on whole numbers. In 128 bits each number repeats its sign from bit 127 on, so no bit is lost.
+// Bitwise operators on whole numbers. In 128 bits each number repeats its sign from bit 127 on, so
+// no bit is lost.
 ghost use Rattle.std.specs.Prelude.{◌≡◌};
 ghost use Rattle.ui_const.specs.Bits.{whole_and, whole_or, whole_xor, whole_and_not};
 

@@ -10,8 +10,8 @@ use crate::text;
 use std::alloc::Global;
 use ui_base::{Basic, Text, Value};
 
-/// Whether a constant may be converted to a kind: a whole number to a whole kind or to text, a text to text, a truth value
-/// to a boolean kind. Go specification, "Conversions".
+/// Whether a constant may be converted to a kind: a whole number to a whole kind or to text, a text
+/// to text, a truth value to a boolean kind. Go specification, "Conversions".
 pub fn can_convert(v: &Value, kind: Basic) -> bool
     ensures { result ≡ is_some (conversion v.now kind) }
 {
@@ -22,9 +22,9 @@ pub fn can_convert(v: &Value, kind: Basic) -> bool
     }
 }
 
-/// The constant as one of the kind. A whole number gives the text of its character, or of U+FFFD where it is none.
-/// `NotRepresentable` for a whole number that a whole kind can't hold, `ConstTooBig` for a text past its limit. Go
-/// specification, "Conversions".
+/// The constant as one of the kind. A whole number gives the text of its character, or of U+FFFD
+/// where it is none. `NotRepresentable` for a whole number that a whole kind can't hold,
+/// `ConstTooBig` for a text past its limit. Go specification, "Conversions".
 pub fn convert(alloc: Global, v: &Value, kind: Basic) -> Result<Value, ConstFault>
     requires { IsSome (conversion v.now kind) }
     ensures { IfSome (conversion v.now kind) (λ want. Gives want result) }

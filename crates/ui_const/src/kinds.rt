@@ -5,7 +5,8 @@ ghost use Rattle.ui_const.specs.Kinds as kinds;
 use crate::fault::ConstFault;
 use ui_base::{Basic, Value};
 
-/// Tests that a kind can hold a value: `NotRepresentable` where it can't. Go specification, "Representability".
+/// Tests that a kind can hold a value: `NotRepresentable` where it can't. Go specification,
+/// "Representability".
 pub fn represent(v: &Value, kind: Basic) -> Result<(), ConstFault>
     ensures { result ≡ kinds.represented v.now kind }
 {

@@ -1,5 +1,5 @@
-//! Arithmetic on constants: each operation is the mathematical one, followed by the test of its limits. Whole numbers lie
-//! from -2^127 to 2^127 - 1, and texts have at most 1,048,576 bytes.
+//! Arithmetic on constants: each operation is the mathematical one, followed by the test of its
+//! limits. Whole numbers lie from -2^127 to 2^127 - 1, and texts have at most 1,048,576 bytes.
 #![tactic(auto)]
 
 mod bits;

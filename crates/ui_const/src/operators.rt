@@ -9,7 +9,8 @@ use crate::{text, whole};
 use std::alloc::Global;
 use ui_base::{BinOp, Value};
 
-/// Whether a binary operator, shifts apart, is allowed on two constants. Go specification, "Operators".
+/// Whether a binary operator, shifts apart, is allowed on two constants. Go specification,
+/// "Operators".
 pub fn can_operate(op: BinOp, a: &Value, b: &Value) -> bool
     ensures { result ≡ is_some (operation op a.now b.now) }
 {
@@ -36,8 +37,9 @@ pub fn can_operate(op: BinOp, a: &Value, b: &Value) -> bool
     }
 }
 
-/// The result of a binary operator on two constants. `DivByZero` for a quotient or remainder by zero, and `ConstTooBig`
-/// for a result past the limits. Only a new text takes memory. Go specification, "Constant expressions".
+/// The result of a binary operator on two constants. `DivByZero` for a quotient or remainder by
+/// zero, and `ConstTooBig` for a result past the limits. Only a new text takes memory. Go
+/// specification, "Constant expressions".
 pub fn binary(alloc: Global, op: BinOp, a: &Value, b: &Value) -> Result<Value, ConstFault>
     requires { IsSome (operation op a.now b.now) }
     ensures { IfSome (operation op a.now b.now) (λ want. Gives want result) }

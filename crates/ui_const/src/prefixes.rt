@@ -9,8 +9,8 @@ use crate::fault::ConstFault;
 use crate::kinds::{bounds, is_within};
 use ui_base::{Basic, UnOp, Value};
 
-/// Whether a unary operator is allowed on a constant of a kind: `-` and `^` on a whole number that the kind holds, `!` on
-/// a truth value. Go specification, "Operators".
+/// Whether a unary operator is allowed on a constant of a kind: `-` and `^` on a whole number that
+/// the kind holds, `!` on a truth value. Go specification, "Operators".
 pub fn can_prefix(op: UnOp, a: &Value, kind: Basic) -> bool
     ensures { result ≡ is_some (unary_operation op a.now kind) }
 {
@@ -21,9 +21,9 @@ pub fn can_prefix(op: UnOp, a: &Value, kind: Basic) -> bool
     }
 }
 
-/// The result of a unary operator on a constant of a kind; `^` on an unsigned kind flips the bits of that kind.
-/// `ConstTooBig` past the limits, else `NotRepresentable` where the kind can't hold the result. Takes no memory. Go
-/// specification, "Arithmetic operators", "Logical operators".
+/// The result of a unary operator on a constant of a kind; `^` on an unsigned kind flips the bits
+/// of that kind. `ConstTooBig` past the limits, else `NotRepresentable` where the kind can't hold
+/// the result. Takes no memory. Go specification, "Arithmetic operators", "Logical operators".
 pub fn unary(op: UnOp, a: &Value, kind: Basic) -> Result<Value, ConstFault>
     requires { IsSome (unary_operation op a.now kind) }
     ensures { unary_operation op a.now kind ≡ Some result }
@@ -46,7 +46,8 @@ fn negated(z: i128, range: Option<(i128, i128)>) -> Result<Value, ConstFault>
     }
 }
 
-// The number with its bits flipped: all bits of an unsigned kind, and all bits without end of another.
+// The number with its bits flipped: all bits of an unsigned kind, and all bits without end of
+// another.
 fn flipped(z: i128, range: Option<(i128, i128)>) -> Result<Value, ConstFault>
     ensures { result ≡ typed range (whole_xor (mask range) z) }
 {

@@ -14,9 +14,9 @@ pub fn is_shift(op: BinOp) -> bool
     matches!(op, BinOp::Shl | BinOp::Shr)
 }
 
-/// The result of a shift of `a` by a count: `a` times 2^count, or `a` divided by 2^count and rounded down. `BadShift` for
-/// a negative count, `ConstTooBig` for a result past the limits. Takes no memory. Go specification, "Arithmetic
-/// operators".
+/// The result of a shift of `a` by a count: `a` times 2^count, or `a` divided by 2^count and
+/// rounded down. `BadShift` for a negative count, `ConstTooBig` for a result past the limits. Takes
+/// no memory. Go specification, "Arithmetic operators".
 pub fn shift(op: BinOp, a: i128, count: i128) -> Result<i128, ConstFault>
     requires { IsSome (shift_operation op) }
     ensures { IfSome (shift_operation op) (λ shifted. result ≡ shifted a count) }

@@ -1,4 +1,5 @@
-// Arithmetic on whole numbers. Nothing is computed in more than 128 bits: a result outside them is refused.
+// Arithmetic on whole numbers. Nothing is computed in more than 128 bits: a result outside them is
+// refused.
 ghost use Rattle.std.specs.Prelude.{◌≡◌, ◌+ℤ◌, ◌-ℤ◌, ◌*ℤ◌, MatchOption, IsSome, IfSome};
 ghost use Rattle.ui_const.specs.Results.{limited_whole};
 ghost use Rattle.ui_const.specs.Operators.{whole_operation, quotient, remainder};
@@ -10,7 +11,8 @@ use ui_base::{BinOp, Value};
 
 // A whole number as a value, or that there is none within the limits.
 pub(crate) fn limited(exact: Option<i128>) -> Result<Value, ConstFault>
-    ensures { MatchOption exact (result ≡ Err ConstFault.ConstTooBig) (λ z. result ≡ Ok (value.Whole z)) }
+    ensures { MatchOption exact (result ≡ Err ConstFault.ConstTooBig)
+        (λ z. result ≡ Ok (value.Whole z)) }
 {
     match exact {
         Some(z) => Ok(Value::Whole(z)),

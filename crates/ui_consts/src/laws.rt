@@ -11,7 +11,8 @@ pub fn reads_back()
     ensures { (parts : Parts) (l : Linked) → StandsFor parts l → record_in parts ≡ Some l }
 {}
 
-/// The packages below that are read ascend by path, with valid paths and fingerprints of eight bytes.
+/// The packages below that are read ascend by path, with valid paths and fingerprints of eight
+/// bytes.
 pub fn lists_are_lists()
     ensures { (parts : Parts) (l : Linked) → record_in parts ≡ Some l → IsListed l.below }
 {}

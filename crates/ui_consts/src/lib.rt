@@ -1,7 +1,7 @@
 //! Linked files of packages of constants, with the packages below: written, and read back.
 //!
-//! `specs/Elements.antt` gives the elements of such a file, `specs/Record.antt` what they stand for, and
-//! `specs/Reading.antt` how a file is read. The law `reads_back` joins the last two.
+//! `specs/Elements.antt` gives the elements of such a file, `specs/Record.antt` what they stand
+//! for, and `specs/Reading.antt` how a file is read. The law `reads_back` joins the last two.
 #![tactic(auto)]
 
 mod laws;

@@ -1,10 +1,13 @@
 // A package whose strings and files have numbers.
-ghost use Rattle.std.specs.Prelude.{◌≡◌, ◌^◌, ◌<◌, ◌≤◌, [], ◌∷◌, ◌++◌, length, map, nat_eq, slice_index_or, IfOk, OnOk};
+ghost use Rattle.std.specs.Prelude.{◌≡◌, ◌^◌, ◌<◌, ◌≤◌, [], ◌∷◌, ◌++◌, length, map, nat_eq};
+ghost use Rattle.std.specs.Prelude.{slice_index_or, IfOk, OnOk};
 ghost use Rattle.std.specs.List.{AllByRecursion, IsDistinct};
 ghost use Rattle.std.specs.FinMap.{entries};
 ghost use Rattle.ui_exports.specs.Constants.{declaration};
 ghost use Rattle.ui_exports.specs.Linked as linked_of;
-ghost use Rattle.ui_consts.specs.Numbering.{Covers, Grown, GrownFiles, IsBelowOf, IsEntryOf, IsMapOf, IsPlace, IsValueOf, Numbers, NumbersBelow, NumbersConstants, entry};
+ghost use Rattle.ui_consts.specs.Numbering.{Covers, Grown, GrownFiles, IsBelowOf, IsEntryOf};
+ghost use Rattle.ui_consts.specs.Numbering.{IsMapOf, IsPlace, IsValueOf, Numbers, NumbersBelow};
+ghost use Rattle.ui_consts.specs.Numbering.{NumbersConstants, entry};
 ghost use Rattle.ui_consts.specs.Record.{below_uses, entry_uses, value_uses};
 ghost use Rattle.ui_consts.specs.Size.{HasNames, IsBelow, IsSmall, IsSmallEntry, IsSmallExport};
 
@@ -24,7 +27,8 @@ pub(crate) struct Entry {
     pub value: ValueEl,
 }
 
-/// What the elements of a file are made of. Strings and PosBases stand in the order of their first use.
+/// What the elements of a file are made of. Strings and PosBases stand in the order of their first
+/// use.
 #[derive(Drop)]
 pub(crate) struct Numbered {
     pub strings: Vec<Text>,
@@ -80,9 +84,11 @@ fn base_of(
     requires bases { length bases.old.keys < 2 ^ 31 }
     requires short { length file.now ≤ 4096 }
     ensures texts { OnOk result (Grown 1 strings.old.keys strings.new.keys) }
-    ensures files { OnOk result (GrownFiles file.now strings.new.keys bases.old.keys bases.new.keys) }
+    ensures files { OnOk result (GrownFiles file.now strings.new.keys bases.old.keys
+        bases.new.keys) }
     ensures there { IfOk result (λ base. base < length bases.new.keys) }
-    ensures is { IfOk result (λ base. IsPlace file.now (slice_index_or bases.new.keys base 0) strings.new.keys) }
+    ensures is { IfOk result (λ base. IsPlace file.now
+        (slice_index_or bases.new.keys base 0) strings.new.keys) }
     ensures apart { OnOk result (IsDistinct nat_eq bases.new.keys) }
     ensures used { OnOk result
         (Covers bases.new.keys (length strings.old.keys) (length strings.new.keys)) }
@@ -106,8 +112,12 @@ fn entry_of(
     requires bases { length bases.old.keys < 2 ^ 30 }
     requires small { IsSmallEntry (name.now, declaration constant.now) }
     ensures texts { OnOk result (Grown 3 strings.old.keys strings.new.keys) }
-    ensures files { OnOk result (GrownFiles (declaration constant.now).file strings.new.keys bases.old.keys bases.new.keys) }
-    ensures is { IfOk result (λ e. IsEntryOf strings.new.keys bases.new.keys (entry e) (name.now, declaration constant.now)) }
+    ensures files { OnOk result (GrownFiles (declaration constant.now).file strings.new.keys
+        bases.old.keys bases.new.keys) }
+    ensures is { IfOk result (λ e. IsEntryOf strings.new.keys bases.new.keys (entry e) (
+      name.now,
+      declaration constant.now,
+    )) }
     ensures apart { OnOk result (IsDistinct nat_eq bases.new.keys) }
     ensures used { IfOk result (λ e. Covers (bases.new.keys ++ entry_uses (entry e))
         (length strings.old.keys) (length strings.new.keys)) }
@@ -135,7 +145,8 @@ fn number_constants(
     requires room { length strings.old.keys ≤ 2 }
     requires small { IsSmallExport «package».now }
     requires names { HasNames «package».now }
-    ensures numbers { IfOk result (λ r. NumbersConstants (entries «package».now.decls) (map entry r.1.items) r.0.items strings.old.keys strings.new.keys) }
+    ensures numbers { IfOk result (λ r. NumbersConstants (entries «package».now.decls)
+        (map entry r.1.items) r.0.items strings.old.keys strings.new.keys) }
     ensures listed { IfOk result (λ _. IsMapOf (entries «package».now.decls) «package».now.decls) }
 {
     let mut bases = IndexSet::new(alloc);
@@ -189,7 +200,8 @@ fn number_below(
     requires room { length strings.old.keys ≤ 2 ^ 14 }
     requires few { length belows.now ≤ 1024 }
     requires each { AllByRecursion IsBelow (map linked_of.below belows.now) }
-    ensures { IfOk result (λ v. NumbersBelow (map linked_of.below belows.now) v.items strings.old.keys strings.new.keys) }
+    ensures { IfOk result (λ v. NumbersBelow (map linked_of.below belows.now) v.items
+        strings.old.keys strings.new.keys) }
 {
     let mut entries = Vec::new(alloc);
     for below in belows {
@@ -199,7 +211,8 @@ fn number_below(
     Ok(entries)
 }
 
-/// Gives the strings and the files of a package, and of the list of packages below it, their numbers.
+/// Gives the strings and the files of a package, and of the list of packages below it, their
+/// numbers.
 pub(crate) fn number(alloc: Global, linked: &Linked) -> Result<Numbered, NoMemory>
     requires { IsSmall linked.now }
     ensures { IfOk result (λ n. Numbers n linked.now) }

@@ -1,5 +1,6 @@
 // A linked file, read.
-ghost use Rattle.std.specs.Prelude.{◌≡◌, ◌<◌, ◌^◌, [], length, map, option_map, IfOk, IfSome, bytes_eq};
+ghost use Rattle.std.specs.Prelude.{◌≡◌, ◌<◌, ◌^◌, [], length, map, option_map, IfOk, IfSome};
+ghost use Rattle.std.specs.Prelude.{bytes_eq};
 ghost use Rattle.std.specs.Option.{option_copied};
 ghost use Rattle.std.specs.FinMap.{from_entries};
 ghost use Rattle.ui_frame.specs.Container.{section};
@@ -62,7 +63,9 @@ fn text_at<'a>(frame: &Frame<'a>, k: u32) -> &'a [u8]
 // The path and the name of the first Pkg, as a package that declares nothing yet.
 #[tactic(auto, unfolding(ui_exports::specs::Constants::declarations_of))]
 fn package_in<'a>(alloc: Global, frame: &'a Frame<'a>) -> Result<Option<Package>, NoMemory>
-    ensures { IfOk result (λ o. o ≡ option_map (λ p. record { path = p.0; name = p.1; decls = from_entries [] }) (reading.package_in frame.now)) }
+    ensures { IfOk result (λ o. o ≡ option_map
+        (λ p. record { path = p.0; name = p.1; decls = from_entries [] })
+        (reading.package_in frame.now)) }
 {
     let Some(package) = element_at::<PkgEl>(alloc, frame, Section::Pkg, 0)? else {
         return Ok(None);
@@ -173,7 +176,8 @@ fn entry_in<'a>(
     frame: &'a Frame<'a>,
     k: u32,
 ) -> Result<Option<(&'a [u8], Constant)>, NoMemory>
-    ensures { IfOk result (λ o. option_map (λ e. (e.0.now, declaration e.1)) o ≡ reading.entry_in frame.now k) }
+    ensures { IfOk result (λ o. option_map (λ e. (e.0.now, declaration e.1)) o
+        ≡ reading.entry_in frame.now k) }
 {
     let Some(name) = name_in(alloc, frame, k)? else {
         return Ok(None);
@@ -191,7 +195,8 @@ fn with_constants<'a>(
     empty: Package,
 ) -> Result<Option<Package>, NoMemory>
     requires { empty.decls ≡ from_entries [] }
-    ensures { IfOk result (λ o. o ≡ option_map (λ es. with_decls empty (from_entries es)) (reading.entries_in frame.now)) }
+    ensures { IfOk result (λ o. o ≡ option_map (λ es. with_decls empty (from_entries es))
+        (reading.entries_in frame.now)) }
 {
     let mut package = empty;
     let count = frame.count(Section::Name);
@@ -223,7 +228,8 @@ fn export_in<'a>(alloc: Global, frame: &'a Frame<'a>) -> Result<Option<Package>,
 // A package below by its entry.
 fn below_of(alloc: Global, frame: &Frame, entry: &BelowEl) -> Result<Below, NoMemory>
     requires { length (reading.text_in frame.now entry.now.print) ≡ 8 }
-    ensures { IfOk result (λ b. record { path = b.path; print = b.print; direct = b.direct } ≡ below_by (section Section.Str frame.now) entry.now) }
+    ensures { IfOk result (λ b. record { path = b.path; print = b.print; direct = b.direct }
+        ≡ below_by (section Section.Str frame.now) entry.now) }
 {
     let path = Text::from_slice(alloc, text_at(frame, entry.path))?;
     let mut print = [0; 8];
@@ -238,7 +244,8 @@ fn below_of(alloc: Global, frame: &Frame, entry: &BelowEl) -> Result<Below, NoMe
 // The packages below by their entries.
 fn belows_of(alloc: Global, frame: &Frame, entries: &[BelowEl]) -> Result<Vec<Below>, NoMemory>
     requires { HavePrints (section Section.Str frame.now) entries.now }
-    ensures { IfOk result (λ v. belows v ≡ map (below_by (section Section.Str frame.now)) entries.now) }
+    ensures { IfOk result (λ v. belows v ≡ map (below_by (section Section.Str frame.now))
+        entries.now) }
 {
     let mut belows = Vec::new(alloc);
     for entry in entries {
@@ -259,8 +266,9 @@ fn below_in<'a>(alloc: Global, frame: &'a Frame<'a>) -> Result<Option<Vec<Below>
     Ok(Some(belows))
 }
 
-/// What an opened container stands for, or nothing where it stands for nothing. Looks at the package, the constants and
-/// what these use, and the private root; not at the public root, and at no element that nothing uses.
+/// What an opened container stands for, or nothing where it stands for nothing. Looks at the
+/// package, the constants and what these use, and the private root; not at the public root, and at
+/// no element that nothing uses.
 #[tactic(auto, unfolding(crate::specs::Reading::record_in))]
 pub fn read_linked(alloc: Global, frame: &Frame) -> Result<Option<Linked>, NoMemory>
     ensures { IfOk result (λ o. o ≡ record_in frame.now) }

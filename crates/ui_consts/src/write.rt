@@ -1,5 +1,6 @@
 // A linked file, written.
-ghost use Rattle.std.specs.Prelude.{◌≡◌, ◌+◌, ◌*◌, ◌^◌, ◌≤◌, [], ◌∷◌, map, length, replicate, IfOk, OnOk, vec_len};
+ghost use Rattle.std.specs.Prelude.{◌≡◌, ◌+◌, ◌*◌, ◌^◌, ◌≤◌, [], ◌∷◌, map, length, replicate, IfOk};
+ghost use Rattle.std.specs.Prelude.{OnOk, vec_len};
 ghost use Rattle.std.specs.List.{AllByRecursion, range_with_len};
 ghost use Rattle.ui_exports.specs.Linked as linked_of;
 ghost use Rattle.ui_strpos.specs.Elements as one;
@@ -8,7 +9,8 @@ ghost use Rattle.ui_strpos.specs.Reading.{Context};
 ghost use Rattle.ui_frame.specs.Container.{no_elements};
 ghost use Rattle.ui_eobj.specs.Objects as object;
 ghost use Rattle.ui_eobj.specs.Roots as root;
-ghost use Rattle.ui_consts.specs.Elements.{base_of, name_of, object_of, public_of, spelled, spelled_as, use_of};
+ghost use Rattle.ui_consts.specs.Elements.{base_of, name_of, object_of, public_of, spelled};
+ghost use Rattle.ui_consts.specs.Elements.{spelled_as, use_of};
 ghost use Rattle.ui_consts.specs.Numbering.{Numbers, elements_of, entry};
 ghost use Rattle.ui_consts.specs.Record.{Holds};
 ghost use Rattle.ui_consts.specs.Size.{IsSmall};
@@ -23,7 +25,8 @@ use ui_exports::{Linked, NoMemory};
 use ui_frame::{FrameOut, OutFault, Section};
 use ui_strpos::{Element, NameEl, NameKind, PkgEl, PosBaseEl, write_element};
 
-/// The elements that are the same in each file: that of no function, and a dictionary without entries.
+/// The elements that are the same in each file: that of no function, and a dictionary without
+/// entries.
 const EXTENSION: [u8; 1] = [0];
 
 const DICTIONARY: [u8; 8] = [0; 8];
@@ -49,7 +52,8 @@ fn add_element<E: Element>(
 ) -> Result<(), NoMemory>
     requires fits { (c : Context) × InGrammar E.format c element.now }
     requires place { HasPlace 1 (10 + 30 * length (E.format.items element.now)) out.old }
-    ensures { OnOk result (Adds s (spelled_as E.format element.now ∷ []) (10 + 30 * length (E.format.items element.now)) out.old out.new) }
+    ensures { OnOk result (Adds s (spelled_as E.format element.now ∷ [])
+        (10 + 30 * length (E.format.items element.now)) out.old out.new) }
 {
     let bytes = write_element(alloc, element)?;
     add(alloc, out, s, &bytes)?;
@@ -88,9 +92,11 @@ fn add_strings(alloc: Global, out: &mut FrameOut, strings: &[Text]) -> Result<()
 // Adds the PosBases.
 fn add_bases(alloc: Global, out: &mut FrameOut, bases: &[u32]) -> Result<(), NoMemory>
     requires few { length bases.now ≤ 4096 }
-    requires fits { (c : Context) × AllByRecursion (λ file. InGrammar one.posbase c (base_of file)) bases.now }
+    requires fits { (c : Context) × AllByRecursion (λ file. InGrammar one.posbase c (base_of file))
+        bases.now }
     requires room { HasRoom 1 out.old }
-    ensures { OnOk result (AddsAll Section.PosBase (map (λ file. spelled_as one.posbase (base_of file)) bases.now) out.old out.new) }
+    ensures { OnOk result (AddsAll Section.PosBase
+        (map (λ file. spelled_as one.posbase (base_of file)) bases.now) out.old out.new) }
 {
     for file in bases {
         add_element(alloc, out, Section::PosBase, &PosBaseEl { file: *file })?;
@@ -112,9 +118,11 @@ fn name_element(of: &Entry) -> NameEl
 // Adds the Names.
 fn add_names(alloc: Global, out: &mut FrameOut, entries: &[Entry]) -> Result<(), NoMemory>
     requires few { length entries.now ≤ 4096 }
-    requires fits { (c : Context) × AllByRecursion (λ e. InGrammar one.name c (name_of e)) (map entry entries.now) }
+    requires fits { (c : Context) × AllByRecursion (λ e. InGrammar one.name c (name_of e))
+        (map entry entries.now) }
     requires room { HasRoom 1 out.old }
-    ensures { OnOk result (AddsAll Section.Name (map (λ e. spelled_as one.name (name_of e)) (map entry entries.now)) out.old out.new) }
+    ensures { OnOk result (AddsAll Section.Name
+        (map (λ e. spelled_as one.name (name_of e)) (map entry entries.now)) out.old out.new) }
 {
     for entry in entries {
         add_element(alloc, out, Section::Name, &name_element(entry))?;
@@ -140,9 +148,12 @@ fn object_element(of: &Entry) -> ConstEl
 // Adds the Objs.
 fn add_objects(alloc: Global, out: &mut FrameOut, entries: &[Entry]) -> Result<(), NoMemory>
     requires few { length entries.now ≤ 4096 }
-    requires fits { (c : Context) × AllByRecursion (λ e. InGrammar object.constant c (object_of e)) (map entry entries.now) }
+    requires fits { (c : Context) × AllByRecursion (λ e. InGrammar object.constant c (object_of e))
+        (map entry entries.now) }
     requires room { HasRoom 1 out.old }
-    ensures { OnOk result (AddsAll Section.Obj (map (λ e. spelled_as object.constant (object_of e)) (map entry entries.now)) out.old out.new) }
+    ensures { OnOk result (AddsAll Section.Obj
+        (map (λ e. spelled_as object.constant (object_of e)) (map entry entries.now)) out.old
+        out.new) }
 {
     for entry in entries {
         add_element(alloc, out, Section::Obj, &object_element(entry))?;
@@ -215,7 +226,8 @@ fn add_constants(alloc: Global, out: &mut FrameOut, x: &Numbered) -> Result<(), 
 fn add_public_root(alloc: Global, out: &mut FrameOut, x: &Numbered) -> Result<(), NoMemory>
     requires numbers { (l : linked_of.Linked) × Numbers x.now l }
     requires room { HasRoom 1 out.old }
-    ensures { OnOk result (AddsAll Section.Meta (spelled_as root.public_root (public_of (elements_of x.now)) ∷ []) out.old out.new) }
+    ensures { OnOk result (AddsAll Section.Meta
+        (spelled_as root.public_root (public_of (elements_of x.now)) ∷ []) out.old out.new) }
 {
     let objects = Items::new(object_uses(alloc, x.entries.len() as u32)?);
     add_one(alloc, out, Section::Meta, &PublicRootEl { pkg: 0, objects })?;
@@ -236,7 +248,8 @@ fn write_elements(alloc: Global, x: &Numbered) -> Result<FrameOut, NoMemory>
     Ok(out)
 }
 
-/// The linked file of a package and the packages below it: a container whose parts stand for them, of at most 2^30 bytes.
+/// The linked file of a package and the packages below it: a container whose parts stand for them,
+/// of at most 2^30 bytes.
 pub fn write_linked(alloc: Global, linked: &Linked) -> Result<Vec<u8>, NoMemory>
     requires { IsSmall linked.now }
     ensures holds { IfOk result (λ v. Holds v.items linked.now) }

@@ -27,7 +27,8 @@ pub struct FuncKey {
     pub method: Option<Name>,
 }
 
-/// A function that is called, with its type arguments. `pointer` is the mark of a method that has a pointer receiver.
+/// A function that is called, with its type arguments. `pointer` is the mark of a method that has a
+/// pointer receiver.
 #[derive(Drop)]
 pub struct Callee {
     pub key: FuncKey,

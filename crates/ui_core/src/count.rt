@@ -1,10 +1,12 @@
-//! How many nodes a checked tree has: a count goes from part to part, and stays at its largest value once it is there.
+//! How many nodes a checked tree has: a count goes from part to part, and stays at its largest
+//! value once it is there.
 
 ghost use Rattle.std.specs.Prelude.{◌≡◌, ◌+◌, map, option_map};
 ghost use Rattle.ui_core.specs.Cost as spec;
 ghost use Rattle.ui_core.specs.Cost.{capped};
 ghost use Rattle.ui_core.specs.View as seen;
-ghost use Rattle.ui_core.specs.View.{view, stmt_view, clause_view, body_view, field_with, item_with, entry_with};
+ghost use Rattle.ui_core.specs.View.{view, stmt_view, clause_view, body_view, field_with};
+ghost use Rattle.ui_core.specs.View.{item_with, entry_with};
 
 use crate::tree::{Body, Clause, Entry, Expr, FieldValue, IndexedValue, Places, Stmt};
 use sqlite_items::Boxed;
@@ -22,7 +24,8 @@ fn count_exprs(count: u64, parts: &[Expr]) -> u64
 
 #[cycle(count)]
 fn count_fields(count: u64, parts: &[FieldValue<Expr>]) -> u64
-    ensures { result ≡ capped (count + spec.fields_cost (seen.field_values (map (field_with view) parts.now))) }
+    ensures { result ≡ capped (count + spec.fields_cost
+        (seen.field_values (map (field_with view) parts.now))) }
 {
     let mut total = count;
     for part in parts {
@@ -33,7 +36,8 @@ fn count_fields(count: u64, parts: &[FieldValue<Expr>]) -> u64
 
 #[cycle(count)]
 fn count_items(count: u64, parts: &[IndexedValue<Expr>]) -> u64
-    ensures { result ≡ capped (count + spec.items_cost (seen.indexed_values (map (item_with view) parts.now))) }
+    ensures { result ≡ capped (count + spec.items_cost
+        (seen.indexed_values (map (item_with view) parts.now))) }
 {
     let mut total = count;
     for part in parts {
@@ -44,7 +48,8 @@ fn count_items(count: u64, parts: &[IndexedValue<Expr>]) -> u64
 
 #[cycle(count)]
 fn count_entries(count: u64, parts: &[Entry<Expr>]) -> u64
-    ensures { result ≡ capped (count + spec.entries_cost (seen.entries (map (entry_with view) parts.now))) }
+    ensures { result ≡ capped (count + spec.entries_cost
+        (seen.entries (map (entry_with view) parts.now))) }
 {
     let mut total = count;
     for part in parts {
@@ -56,7 +61,8 @@ fn count_entries(count: u64, parts: &[Entry<Expr>]) -> u64
 
 #[cycle(count)]
 fn count_places(count: u64, parts: &[Option<Expr>]) -> u64
-    ensures { result ≡ capped (count + spec.places_cost (seen.assigned_all (map (option_map view) parts.now))) }
+    ensures { result ≡ capped (count + spec.places_cost
+        (seen.assigned_all (map (option_map view) parts.now))) }
 {
     let mut total = count;
     for part in parts {
@@ -81,7 +87,8 @@ fn count_stmts(count: u64, parts: &[Stmt]) -> u64
 #[cycle(count)]
 #[tactic(auto, using(std::proofs::lemmas::Grind::common_steps, crate::specs::Views::clause_opened))]
 fn count_clauses(count: u64, parts: &[Clause]) -> u64
-    ensures { result ≡ capped (count + spec.clauses_cost (seen.clauses (map clause_view parts.now))) }
+    ensures { result ≡ capped (count + spec.clauses_cost
+        (seen.clauses (map clause_view parts.now))) }
 {
     let mut total = count;
     for part in parts {
@@ -247,7 +254,8 @@ fn count_body(count: u64, body: &Body) -> u64
     count_stmts(count, body.stmts.as_slice())
 }
 
-/// How many expressions and statements the body has, up to the largest number of 64 bits. It takes no memory.
+/// How many expressions and statements the body has, up to the largest number of 64 bits. It takes
+/// no memory.
 pub fn cost(body: &Body) -> u64
     ensures { result ≡ capped (spec.body_cost (body_view body.now)) }
 {

@@ -3,7 +3,8 @@
 ghost use Rattle.std.specs.Prelude.{◌≡◌, map, option_map};
 ghost use Rattle.ui_core.specs.Checked as checked;
 ghost use Rattle.ui_core.specs.View as seen;
-ghost use Rattle.ui_core.specs.View.{view, stmt_view, body_view, clause_view, field_with, item_with, entry_with, range_with};
+ghost use Rattle.ui_core.specs.View.{view, stmt_view, body_view, clause_view, field_with};
+ghost use Rattle.ui_core.specs.View.{item_with, entry_with, range_with};
 
 use crate::callee::{BuiltinFn, Callee};
 use crate::tree::{
@@ -103,7 +104,8 @@ impl Expr {
         high: Option<Boxed<Expr>>,
         max: Option<Boxed<Expr>>,
     ) -> Expr
-        ensures { view result ≡ checked.slice (view of) (seen.maybe (option_map view low)) (seen.maybe (option_map view high)) (seen.maybe (option_map view max)) }
+        ensures { view result ≡ checked.slice (view of) (seen.maybe (option_map view low))
+            (seen.maybe (option_map view high)) (seen.maybe (option_map view max)) }
     {
         Expr::Slice { of, low, high, max }
     }
@@ -124,21 +126,24 @@ impl Expr {
 
     #[tactic(auto, using(crate::specs::Views::view_StructLit))]
     pub fn struct_literal(ty: TypeId, fields: Items<FieldValue<Expr>>) -> Expr
-        ensures { view result ≡ checked.struct_literal ty (seen.field_values (map (field_with view) fields)) }
+        ensures { view result ≡ checked.struct_literal ty
+            (seen.field_values (map (field_with view) fields)) }
     {
         Expr::StructLit { ty, fields }
     }
 
     #[tactic(auto, using(crate::specs::Views::view_ListLit))]
     pub fn list_literal(ty: TypeId, items: Items<IndexedValue<Expr>>) -> Expr
-        ensures { view result ≡ checked.list_literal ty (seen.indexed_values (map (item_with view) items)) }
+        ensures { view result ≡ checked.list_literal ty
+            (seen.indexed_values (map (item_with view) items)) }
     {
         Expr::ListLit { ty, items }
     }
 
     #[tactic(auto, using(crate::specs::Views::view_MapLit))]
     pub fn map_literal(ty: TypeId, entries: Items<Entry<Expr>>) -> Expr
-        ensures { view result ≡ checked.map_literal ty (seen.entries (map (entry_with view) entries)) }
+        ensures { view result ≡ checked.map_literal ty
+            (seen.entries (map (entry_with view) entries)) }
     {
         Expr::MapLit { ty, entries }
     }
@@ -171,7 +176,8 @@ impl Expr {
 
     #[tactic(auto, using(crate::specs::Views::view_ParamCall))]
     pub fn param_call(param: u32, method: Name, of: Boxed<Expr>, args: Exprs) -> Expr
-        ensures { view result ≡ checked.param_call param method (view of) (seen.exprs (map view args)) }
+        ensures { view result ≡ checked.param_call param method (view of)
+            (seen.exprs (map view args)) }
     {
         Expr::ParamCall {
             param,
@@ -218,7 +224,8 @@ impl Expr {
 
     #[tactic(auto, using(crate::specs::Views::view_Inline))]
     pub fn inline(callee: Callee, args: Exprs, body: Boxed<Body>) -> Expr
-        ensures { view result ≡ checked.inline (seen.called callee) (seen.exprs (map view args)) (body_view body) }
+        ensures { view result ≡ checked.inline (seen.called callee) (seen.exprs (map view args))
+            (body_view body) }
     {
         Expr::Inline { callee, args, body }
     }
@@ -241,7 +248,8 @@ impl Stmt {
 
     #[tactic(auto, using(crate::specs::Views::stmt_Assign))]
     pub fn assign(places: Items<Option<Expr>>, values: Exprs) -> Stmt
-        ensures { stmt_view result ≡ checked.assign (seen.assigned_all (map (option_map view) places)) (seen.exprs (map view values)) }
+        ensures { stmt_view result ≡ checked.assign
+            (seen.assigned_all (map (option_map view) places)) (seen.exprs (map view values)) }
     {
         Stmt::Assign { places, values }
     }
@@ -262,7 +270,8 @@ impl Stmt {
 
     #[tactic(auto, using(crate::specs::Views::stmt_If))]
     pub fn branch(condition: Expr, then: Stmts, otherwise: Stmts) -> Stmt
-        ensures { stmt_view result ≡ checked.branch (view condition) (seen.stmts (map stmt_view then)) (seen.stmts (map stmt_view otherwise)) }
+        ensures { stmt_view result ≡ checked.branch (view condition)
+            (seen.stmts (map stmt_view then)) (seen.stmts (map stmt_view otherwise)) }
     {
         Stmt::If {
             condition,
@@ -273,7 +282,9 @@ impl Stmt {
 
     #[tactic(auto, using(crate::specs::Views::stmt_For))]
     pub fn loop_over(init: Stmts, condition: Option<Expr>, post: Stmts, body: Stmts) -> Stmt
-        ensures { stmt_view result ≡ checked.loop (seen.stmts (map stmt_view init)) (seen.maybe (option_map view condition)) (seen.stmts (map stmt_view post)) (seen.stmts (map stmt_view body)) }
+        ensures { stmt_view result ≡ checked.loop (seen.stmts (map stmt_view init))
+            (seen.maybe (option_map view condition)) (seen.stmts (map stmt_view post))
+            (seen.stmts (map stmt_view body)) }
     {
         Stmt::For {
             init,
@@ -285,14 +296,17 @@ impl Stmt {
 
     #[tactic(auto, using(crate::specs::Views::stmt_Range))]
     pub fn range(places: Places<Expr>, over: Expr, body: Stmts) -> Stmt
-        ensures { stmt_view result ≡ checked.ranging (seen.range_of (range_with view places)) (view over) (seen.stmts (map stmt_view body)) }
+        ensures { stmt_view result ≡ checked.ranging (seen.range_of (range_with view places))
+            (view over) (seen.stmts (map stmt_view body)) }
     {
         Stmt::Range { places, over, body }
     }
 
     #[tactic(auto, using(crate::specs::Views::stmt_Switch))]
     pub fn switch(on: Expr, clauses: Items<Clause>, default: Option<Stmts>) -> Stmt
-        ensures { stmt_view result ≡ checked.switch (view on) (seen.clauses (map clause_view clauses)) (seen.maybe_stmts (option_map (map stmt_view) default)) }
+        ensures { stmt_view result ≡ checked.switch (view on)
+            (seen.clauses (map clause_view clauses))
+            (seen.maybe_stmts (option_map (map stmt_view) default)) }
     {
         Stmt::Switch {
             on,
@@ -326,7 +340,8 @@ impl Stmt {
 impl Clause {
     #[tactic(auto, using(crate::specs::Views::clause_seen))]
     pub fn new(values: Exprs, stmts: Stmts) -> Clause
-        ensures { clause_view result ≡ checked.clause (seen.exprs (map view values)) (seen.stmts (map stmt_view stmts)) }
+        ensures { clause_view result ≡ checked.clause (seen.exprs (map view values))
+            (seen.stmts (map stmt_view stmts)) }
     {
         Clause { values, stmts }
     }
@@ -335,7 +350,8 @@ impl Clause {
 impl Body {
     #[tactic(auto, using(crate::specs::Views::body_seen))]
     pub fn new(params: u32, locals: Ids, results: Ids, stmts: Stmts) -> Body
-        ensures { body_view result ≡ checked.body params locals results (seen.stmts (map stmt_view stmts)) }
+        ensures { body_view result ≡ checked.body params locals results
+            (seen.stmts (map stmt_view stmts)) }
     {
         Body {
             params,

@@ -1,4 +1,5 @@
-//! Checked expressions, statements and bodies: each conversion, followed pointer and taken address is explicit.
+//! Checked expressions, statements and bodies: each conversion, followed pointer and taken address
+//! is explicit.
 
 use crate::callee::{BuiltinFn, Callee};
 use sqlite_items::{Boxed, Items};
@@ -32,7 +33,8 @@ pub struct Entry<E> {
     pub value: E,
 }
 
-/// What a range defines or assigns at each turn; `None` stands for a blank. Go specification, "For statements".
+/// What a range defines or assigns at each turn; `None` stands for a blank. Go specification, "For
+/// statements".
 #[derive(Drop)]
 pub enum Places<E> {
     None,

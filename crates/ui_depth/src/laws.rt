@@ -1,17 +1,20 @@
 // Laws, each a function whose contract is the statement.
-ghost use Rattle.ui_depth.specs.Laws.{TellsExprs, TellsTypes, TellsSigs, Missed, ShowsDepth, TellsFiles, TellsFronts};
+ghost use Rattle.ui_depth.specs.Laws.{TellsExprs, TellsTypes, TellsSigs, Missed, ShowsDepth};
+ghost use Rattle.ui_depth.specs.Laws.{TellsFiles, TellsFronts};
 
-/// Where a reader of a budget faults, the fault is one of depth (a form without a limit begins with its word too) exactly
-/// where the reader that has four levels more reads farther: it succeeds, or its own fault leaves fewer words.
+/// Where a reader of a budget faults, the fault is one of depth (a form without a limit begins with
+/// its word too) exactly where the reader that has four levels more reads farther: it succeeds, or
+/// its own fault leaves fewer words.
 pub fn faults_of_depth()
     ensures expressions { TellsExprs }
     ensures types { TellsTypes }
     ensures signatures { TellsSigs }
 {}
 
-/// Where a file's reader faults, a reading of another limit that goes farther shows a fault of depth. A limit of at least eight
-/// times the number of words and sixteen shows each: the fault is one of depth exactly where that reading goes farther. The
-/// words up to the fault's own are enough for it.
+/// Where a file's reader faults, a reading of another limit that goes farther shows a fault of
+/// depth. A limit of at least eight times the number of words and sixteen shows each: the fault is
+/// one of depth exactly where that reading goes farther. The words up to the fault's own are enough
+/// for it.
 pub fn file_faults_of_depth()
     ensures shows { ShowsDepth }
     ensures files { TellsFiles }

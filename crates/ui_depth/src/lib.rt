@@ -1,4 +1,5 @@
-//! Which faults of expressions, types, signatures and files are faults of depth, as laws on their readers.
+//! Which faults of expressions, types, signatures and files are faults of depth, as laws on their
+//! readers.
 #![tactic(auto)]
 
 mod laws;

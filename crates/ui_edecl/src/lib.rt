@@ -1,8 +1,9 @@
-//! The elements of declarations, on top of those of types: the value of a constant, Obj and ObjExt of each kind,
-//! and the empty ObjDict.
+//! The elements of declarations, on top of those of types: the value of a constant, Obj and ObjExt
+//! of each kind, and the empty ObjDict.
 //!
-//! The layout is this project's own, after `cmd/compile/internal/noder` of the Go tree. Each element's grammar is its
-//! format: `specs/Values.antt`, `Objects.antt`, `Extensions.antt` and `Dictionaries.antt`.
+//! The layout is this project's own, after `cmd/compile/internal/noder` of the Go tree. Each
+//! element's grammar is its format: `specs/Values.antt`, `Objects.antt`, `Extensions.antt` and
+//! `Dictionaries.antt`.
 #![tactic(auto)]
 
 mod dictionary;

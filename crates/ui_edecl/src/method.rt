@@ -24,8 +24,8 @@ pub struct DeclaredMethodEl {
     pub sig: TypeUse,
 }
 
-// Whether a method's name may stand after another: they ascend. The order of two of one name that isn't exported rests
-// on their packages, and isn't tested here.
+// Whether a method's name may stand after another: they ascend. The order of two of one name that
+// isn't exported rests on their packages, and isn't tested here.
 fn may_follow(one: &[u8], other: &[u8]) -> bool
     ensures { result ≡ objects.may_follow one.now other.now }
 {
@@ -38,7 +38,8 @@ fn get_next(
     before: Option<&DeclaredMethodEl>,
 ) -> Result<u32, ElementFault>
     requires { IfSome (option_copied before) (λ b. b.sel.name < length input.old.context.texts) }
-    ensures read { Gives (λ k. k) result input.new ((use_field 0 (next_method (option_copied before.entry))).read input.old) }
+    ensures read { Gives (λ k. k) result input.new
+        ((use_field 0 (next_method (option_copied before.entry))).read input.old) }
     ensures context { input.new.context ≡ input.old.context }
     ensures known { IfOk result (λ k. k < length input.new.context.texts) }
 {
@@ -61,7 +62,8 @@ fn get_sel(
     before: Option<&DeclaredMethodEl>,
 ) -> Result<Sel, ElementFault>
     requires { IfSome (option_copied before) (λ b. b.sel.name < length input.old.context.texts) }
-    ensures read { Gives (λ k. k) result input.new ((sel_by (use_field 0 (next_method (option_copied before.entry)))).read input.old) }
+    ensures read { Gives (λ k. k) result input.new
+        ((sel_by (use_field 0 (next_method (option_copied before.entry)))).read input.old) }
     ensures context { input.new.context ≡ input.old.context }
     ensures known { IfOk result (λ s. s.name < length input.new.context.texts) }
 {

@@ -27,7 +27,8 @@ pub enum ObjEl {
         ty: TypeUse,
         value: ValueEl,
     },
-    /// A defined type with its underlying type and its methods, which ascend by name and then by package.
+    /// A defined type with its underlying type and its methods, which ascend by name and then by
+    /// package.
     Defined {
         pos: PosEl,
         params: Items<ParamEl>,

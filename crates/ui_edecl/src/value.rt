@@ -14,7 +14,8 @@ pub enum ValueEl {
     /// The String of its bytes.
     Text(u32),
     Int64(i64),
-    /// A value that 64 signed bits don't hold: the String of its magnitude's bytes, the most significant first.
+    /// A value that 64 signed bits don't hold: the String of its magnitude's bytes, the most
+    /// significant first.
     Big { magnitude: u32, negative: bool },
 }
 

@@ -1,4 +1,5 @@
-//! Tests of the elements of types and declarations: bytes beside the values that they spell, and bytes that are refused.
+//! Tests of the elements of types and declarations: bytes beside the values that they spell, and
+//! bytes that are refused.
 #![tactic(auto)]
 
 #[cfg(test)]

@@ -4,8 +4,9 @@ use ui_frame::{Frame, FrameOut, Section};
 use ui_strpos::{Cause, Element, ElementFault, Shape, read_element, write_element};
 
 /// A container to read elements over. Its Strings are
-/// 0 `a`, 1 `N`, 2 `m`, 3 `M`, 4 `_`, 5 the magnitude of 2^63, 6 that of 2^63 + 1, 7 the empty one, 8 `func`, 9 that of 1.
-/// It has one PosBase, two Pkgs, one Name, three Types, two Objs and one Body.
+/// 0 `a`, 1 `N`, 2 `m`, 3 `M`, 4 `_`, 5 the magnitude of 2^63, 6 that of 2^63 + 1, 7 the empty one,
+/// 8 `func`, 9 that of 1. It has one PosBase, two Pkgs, one Name, three Types, two Objs and one
+/// Body.
 pub fn scene(alloc: Global) -> Result<Vec<u8>, Fail> {
     let texts = [
         b"a".as_slice(),

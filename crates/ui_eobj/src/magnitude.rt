@@ -6,7 +6,8 @@ use ui_frame::NoMemory;
 
 /// The number that bytes spell, most significant first, or nothing where it passes 128 bits.
 pub fn magnitude_number(bytes: &[u8]) -> Option<u128>
-    ensures { MatchOption result (2 ^ 128 ≤ values.magnitude bytes.now) (λ n. n ≡ values.magnitude bytes.now) }
+    ensures { MatchOption result (2 ^ 128 ≤ values.magnitude bytes.now)
+        (λ n. n ≡ values.magnitude bytes.now) }
 {
     let mut number: u128 = 0;
     for byte in bytes {
@@ -34,7 +35,8 @@ pub fn magnitude_bytes(alloc: Global, number: u128) -> Result<Vec<u8>, NoMemory>
     Ok(bytes)
 }
 
-/// Whether bytes are the shortest of the magnitude of a number of this sign that passes 64 signed bits and is a constant.
+/// Whether bytes are the shortest of the magnitude of a number of this sign that passes 64 signed
+/// bits and is a constant.
 pub fn is_big(negative: bool, bytes: &[u8]) -> bool
     ensures { result ≡ values.is_big negative bytes.now }
 {

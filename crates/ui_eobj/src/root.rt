@@ -93,7 +93,8 @@ impl Element for PublicRootEl {
     ghost lawful = { public_root_lawful };
 }
 
-/// A package below: the Strings of its path and of its linked file's fingerprint, and whether it is a direct import.
+/// A package below: the Strings of its path and of its linked file's fingerprint, and whether it is
+/// a direct import.
 #[derive(Clone, Copy, Debug, PartialEq, Eq, Drop)]
 pub struct BelowEl {
     pub path: u32,
@@ -111,7 +112,8 @@ fn is_before(one: &[u8], other: &[u8]) -> bool
 // Reads the path of an entry.
 fn get_path(input: &mut ElementIn<'_>, before: Option<&BelowEl>) -> Result<u32, ElementFault>
     requires { IfSome (option_copied before) (λ b. b.path < length input.old.context.texts) }
-    ensures read { Gives (λ k. k) result input.new ((use_field 0 (next_path (option_copied before.entry))).read input.old) }
+    ensures read { Gives (λ k. k) result input.new
+        ((use_field 0 (next_path (option_copied before.entry))).read input.old) }
     ensures context { input.new.context ≡ input.old.context }
     ensures known { IfOk result (λ k. k < length input.new.context.texts) }
 {
@@ -136,7 +138,8 @@ fn get_path(input: &mut ElementIn<'_>, before: Option<&BelowEl>) -> Result<u32, 
 
 // Reads the fingerprint of an entry.
 fn get_print(input: &mut ElementIn<'_>) -> Result<u32, ElementFault>
-    ensures read { Gives (λ k. k) result input.new ((use_field 0 (texts.text_passes roots.is_print)).read input.old) }
+    ensures read { Gives (λ k. k) result input.new
+        ((use_field 0 (texts.text_passes roots.is_print)).read input.old) }
     ensures context { input.new.context ≡ input.old.context }
 {
     let offset = input.place();

@@ -11,7 +11,8 @@ use ui_strpos::{Cause, ElementFault, ElementIn, ElementOut, Fields};
 #[derive(Clone, Copy, Debug, PartialEq, Eq, Drop)]
 pub enum ValueEl {
     Int64(i64),
-    /// A value that 64 signed bits don't hold: the String of its magnitude's bytes, the most significant first.
+    /// A value that 64 signed bits don't hold: the String of its magnitude's bytes, the most
+    /// significant first.
     Big { magnitude: u32, negative: bool },
 }
 

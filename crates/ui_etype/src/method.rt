@@ -20,8 +20,8 @@ pub struct MethodEl {
     pub sig: TypeUse,
 }
 
-// Whether a method's name may stand after another: exported ones stand first, ascending. The order of two that aren't
-// exported rests on their packages, and isn't tested here.
+// Whether a method's name may stand after another: exported ones stand first, ascending. The order
+// of two that aren't exported rests on their packages, and isn't tested here.
 fn may_follow(one: &[u8], other: &[u8]) -> bool
     ensures { result ≡ types.may_follow one.now other.now }
 {
@@ -35,7 +35,8 @@ fn may_follow(one: &[u8], other: &[u8]) -> bool
 // Reads the name of a method.
 fn get_next(input: &mut ElementIn<'_>, before: Option<&MethodEl>) -> Result<u32, ElementFault>
     requires { IfSome (option_copied before) (λ b. b.sel.name < length input.old.context.texts) }
-    ensures read { Gives (λ k. k) result input.new ((use_field 0 (next_method (option_copied before.entry))).read input.old) }
+    ensures read { Gives (λ k. k) result input.new
+        ((use_field 0 (next_method (option_copied before.entry))).read input.old) }
     ensures context { input.new.context ≡ input.old.context }
     ensures known { IfOk result (λ k. k < length input.new.context.texts) }
 {
@@ -55,7 +56,8 @@ fn get_next(input: &mut ElementIn<'_>, before: Option<&MethodEl>) -> Result<u32,
 // Reads the selector of a method.
 fn get_sel(input: &mut ElementIn<'_>, before: Option<&MethodEl>) -> Result<Sel, ElementFault>
     requires { IfSome (option_copied before) (λ b. b.sel.name < length input.old.context.texts) }
-    ensures read { Gives (λ k. k) result input.new ((after_sel (option_copied before.entry)).read input.old) }
+    ensures read { Gives (λ k. k) result input.new
+        ((after_sel (option_copied before.entry)).read input.old) }
     ensures context { input.new.context ≡ input.old.context }
     ensures known { IfOk result (λ s. s.name < length input.new.context.texts) }
 {

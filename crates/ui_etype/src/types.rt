@@ -2,7 +2,8 @@ ghost use Rattle.std.specs.Prelude.{◌≡◌, OnOk};
 ghost use Rattle.ui_strpos.specs.Reading.{Gives};
 ghost use Rattle.ui_strpos.specs.Format.{uint_field};
 ghost use Rattle.ui_eobj.specs.Values.{clear_flag};
-ghost use Rattle.ui_etype.specs.Types.{type_el, is_basic, basic_kind, array_len, some_terms, basic, named, array, map_type, signature, interface, union_type};
+ghost use Rattle.ui_etype.specs.Types.{type_el, is_basic, basic_kind, array_len, some_terms, basic};
+ghost use Rattle.ui_etype.specs.Types.{named, array, map_type, signature, interface, union_type};
 
 use crate::field::FieldEl;
 use crate::method::MethodEl;

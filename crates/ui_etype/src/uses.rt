@@ -6,7 +6,8 @@ use std::alloc::Global;
 use ui_frame::{NoMemory, Section};
 use ui_strpos::{Cause, ElementFault, ElementIn, ElementOut, Fields};
 
-/// A use of a type: a Type of smaller number, or an entry of the derived types of the object around.
+/// A use of a type: a Type of smaller number, or an entry of the derived types of the object
+/// around.
 #[derive(Clone, Copy, PartialEq, Eq, Hash, Drop)]
 pub enum TypeUse {
     Type(u32),

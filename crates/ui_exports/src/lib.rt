@@ -1,7 +1,7 @@
 //! What packages of constants export, and what their linked files stand for.
 //!
-//! `specs/Export.antt` and `specs/Linked.antt` define both; the crates that read sources, check them and write files
-//! speak of these values alone.
+//! `specs/Export.antt` and `specs/Linked.antt` define both; the crates that read sources, check
+//! them and write files speak of these values alone.
 #![tactic(auto)]
 
 mod linked;

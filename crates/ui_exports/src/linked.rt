@@ -3,7 +3,8 @@ use crate::package::Package;
 use std::marker::Model;
 use ui_base::Text;
 
-/// A package below another: its path, the fingerprint of its linked file, and whether it is a direct import.
+/// A package below another: its path, the fingerprint of its linked file, and whether it is a
+/// direct import.
 #[derive(Debug, Drop)]
 pub struct Below {
     pub path: Text,
@@ -11,7 +12,8 @@ pub struct Below {
     pub direct: bool,
 }
 
-/// What a linked file stands for: what its package exports, and the packages below it, ascending by path.
+/// What a linked file stands for: what its package exports, and the packages below it, ascending by
+/// path.
 #[derive(Debug, Drop)]
 pub struct Linked {
     pub package: Package,

@@ -9,7 +9,8 @@ use std::collections::BTreeMap;
 use std::marker::Model;
 use ui_base::{NoMemory, Pos, Text};
 
-/// An untyped whole constant: the place of its name, and its value, which is below 2^127 in each package that is accepted.
+/// An untyped whole constant: the place of its name, and its value, which is below 2^127 in each
+/// package that is accepted.
 #[derive(Debug, Drop)]
 pub struct Constant {
     pub pos: Pos,
@@ -33,13 +34,21 @@ impl Model for Package {
 
     ghost use Rattle.ui_exports.specs.Constants.{declarations_of};
 
-    ghost view = { λ p. record { path = p.path; name = p.name; decls = declarations_of p.constants.entries } };
+    ghost view = { λ p. record {
+      path = p.path;
+      name = p.name;
+      decls = declarations_of p.constants.entries;
+    } };
 }
 
 impl Package {
     /// A package that declares nothing yet.
     pub fn new(alloc: Global, path: &[u8], name: &[u8]) -> Result<Package, NoMemory>
-        ensures { IfOk result (λ p. p ≡ record { path = path.now; name = name.now; decls = declarations_of [] }) }
+        ensures { IfOk result (λ p. p ≡ record {
+          path = path.now;
+          name = name.now;
+          decls = declarations_of [];
+        }) }
     {
         Ok(Package {
             path: Text::from_slice(alloc, path)?,
@@ -48,11 +57,13 @@ impl Package {
         })
     }
 
-    /// Declares a constant, in place of one of the same name. Tells whether there was none. After want of memory the
-    /// package is as it was.
+    /// Declares a constant, in place of one of the same name. Tells whether there was none. After
+    /// want of memory the package is as it was.
     pub fn declare(&mut self, name: Vec<u8>, constant: Constant) -> Result<bool, NoMemory>
-        ensures added { IfOk result (λ added. added ≡ not (is_some (get self.old.decls name.items))) }
-        ensures now { OnOk result (self.new ≡ with_decls self.old (insert self.old.decls name.items (declaration constant))) }
+        ensures added { IfOk result (λ added. added
+            ≡ not (is_some (get self.old.decls name.items))) }
+        ensures now { OnOk result (self.new ≡ with_decls self.old
+            (insert self.old.decls name.items (declaration constant))) }
     {
         Ok(add(&mut self.constants, name, constant)?)
     }
@@ -78,8 +89,8 @@ impl Package {
         &self.constants
     }
 
-    /// The value of a constant, or nothing where the package has none of this name. Takes the time of a search in an
-    /// ordered map, and no memory.
+    /// The value of a constant, or nothing where the package has none of this name. Takes the time
+    /// of a search in an ordered map, and no memory.
     pub fn value(&self, name: &[u8]) -> Option<u128>
         ensures { result ≡ option_map (λ d. d.value) (get self.now.decls name.now) }
     {
@@ -96,8 +107,10 @@ fn add(
     name: Vec<u8>,
     constant: Constant,
 ) -> Result<bool, NoMemory>
-    ensures added { IfOk result (λ added. added ≡ not (is_some (get (declarations_of constants.old.entries) name.items))) }
-    ensures now { OnOk result (declarations_of constants.new.entries ≡ insert (declarations_of constants.old.entries) name.items (declaration constant)) }
+    ensures added { IfOk result (λ added. added
+        ≡ not (is_some (get (declarations_of constants.old.entries) name.items))) }
+    ensures now { OnOk result (declarations_of constants.new.entries
+        ≡ insert (declarations_of constants.old.entries) name.items (declaration constant)) }
 {
     let old = constants.insert(name, constant)?;
     Ok(old.is_none())
@@ -105,7 +118,8 @@ fn add(
 
 // A constant by its name.
 fn find<'a>(constants: &'a BTreeMap<Vec<u8>, Constant>, name: &[u8]) -> Option<&'a Constant>
-    ensures { option_map (λ c. declaration c.now) result ≡ get (declarations_of constants.now.entries) name.now }
+    ensures { option_map (λ c. declaration c.now) result
+        ≡ get (declarations_of constants.now.entries) name.now }
 {
     constants.get(name)
 }

@@ -1,4 +1,5 @@
-//! Expressions, types and signatures in two parts: the fault stands where the second begins. And texts that begin with a form.
+//! Expressions, types and signatures in two parts: the fault stands where the second begins. And
+//! texts that begin with a form.
 
 use crate::calls::Sort::{self, Expr, Header, Sig, Type};
 use crate::calls::{Call, answer, count_written, expect_between, whole};

@@ -1,4 +1,5 @@
-//! One faulty text for each place at which a production can break, in two parts: the fault stands where the second begins.
+//! One faulty text for each place at which a production can break, in two parts: the fault stands
+//! where the second begins.
 
 use crate::told::Told::{self, TooDeep, Unexpected};
 use crate::told::{CHAN, DEFER, fault, joined, put_each};
@@ -288,7 +289,8 @@ const PLACED: &[Parts] = &[
     ("type T [N * P] ", "= int"),
 ];
 
-// Of the ten words that are outside wherever they are at fault: behind another fault, or where they are taken.
+// Of the ten words that are outside wherever they are at fault: behind another fault, or where they
+// are taken.
 const BEHIND_A_FAULT: &[Parts] = &[
     ("var x", ": chan int"),
     ("func f() { a ", "b; defer g() }"),
@@ -428,7 +430,8 @@ fn each_form(rt: HostRuntime) -> Result<(), Fail> {
 
 // ---- depth
 
-// What begins a text; what follows so many times, in two parts; what is enclosed, and what closes each.
+// What begins a text; what follows so many times, in two parts; what is enclosed, and what closes
+// each.
 type Nest = (&'static str, Parts, usize, &'static str, &'static str);
 
 // One time more is too deep where the second part begins.
@@ -446,7 +449,8 @@ const AT_THE_LIMIT: &[Nest] = &[
     ("var x = ", ("([]T{f", "("), 49, "!!!a", ")})"),
 ];
 
-// What begins a text, what follows so many times, and what stands before and behind the fault. The same again follows.
+// What begins a text, what follows so many times, and what stands before and behind the fault. The
+// same again follows.
 const DEEP: &[(Told, &str, &str, usize, Parts)] = &[
     (TooDeep, "var x = ", "(", 199, ("", "func(")),
     (TooDeep, "var x = ", "([]T{f(", 49, ("!!!", "!a")),

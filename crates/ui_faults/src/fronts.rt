@@ -1,5 +1,5 @@
-//! Each token behind a front of an expression, a type or a signature: those that go on with it are listed, each other one is a
-//! fault there, and so is the end.
+//! Each token behind a front of an expression, a type or a signature: those that go on with it are
+//! listed, each other one is a fault there, and so is the end.
 
 use crate::calls::{Call, Sort, answer, expect_between, is_written, whole};
 use crate::told::{Told, joined, place_of};

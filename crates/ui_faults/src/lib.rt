@@ -1,5 +1,6 @@
-//! Faulty texts, with the place and the kind of the fault of each, worked out by hand from the grammar: of expressions, types
-//! and signatures, and of files; and the sample program, which has none. All is tests.
+//! Faulty texts, with the place and the kind of the fault of each, worked out by hand from the
+//! grammar: of expressions, types and signatures, and of files; and the sample program, which has
+//! none. All is tests.
 #![tactic(auto)]
 
 #[cfg(test)]

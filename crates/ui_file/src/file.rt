@@ -4,8 +4,8 @@ use ui_eobj::{PrivateRootEl, PublicRootEl};
 use ui_etype::TypeEl;
 use ui_strpos::{NameEl, PkgEl, PosBaseEl};
 
-/// The elements of a file, by section. Those of one declaration stand at one number in `names`, `objects`, `extensions`
-/// and `dictionaries`.
+/// The elements of a file, by section. Those of one declaration stand at one number in `names`,
+/// `objects`, `extensions` and `dictionaries`.
 #[derive(Drop)]
 pub struct File {
     pub texts: Items<Text>,

@@ -1,7 +1,7 @@
 //! Whole files as typed elements: which bytes spell a file, and which test of a file fails first.
 //!
-//! `specs/Files.antt` has the elements of a file and how they are read, `Words.antt` what they say, `Rules.antt` the tests
-//! over the whole and `Verdict.antt` the first that fails.
+//! `specs/Files.antt` has the elements of a file and how they are read, `Words.antt` what they say,
+//! `Rules.antt` the tests over the whole and `Verdict.antt` the first that fails.
 #![tactic(auto)]
 
 mod bad;

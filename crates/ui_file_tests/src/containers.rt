@@ -1,5 +1,5 @@
-//! Numbers and containers. Expected values: written out by hand from the layout, and a file whose fingerprint another
-//! program computed.
+//! Numbers and containers. Expected values: written out by hand from the layout, and a file whose
+//! fingerprint another program computed.
 
 use crate::file::FILE;
 use std::test::Fail;

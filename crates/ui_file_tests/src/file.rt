@@ -1,7 +1,7 @@
 //! The worked file.
 
-// The linked file of a package a with `const N = 7` alone: three Strings, the two roots, and one element of each other
-// section up to ObjDict.
+// The linked file of a package a with `const N = 7` alone: three Strings, the two roots, and one
+// element of each other section up to ObjDict.
 pub const FILE: [u8; 173] = [
     // version, flags
     0x01, 0x00, 0x00, 0x00, 0x00, 0x00, 0x00, 0x00,

@@ -1,4 +1,5 @@
-//! Tests of files: containers, elements, and linked files of packages of constants. Nothing stands here but tests.
+//! Tests of files: containers, elements, and linked files of packages of constants. Nothing stands
+//! here but tests.
 #![tactic(auto)]
 
 #[cfg(test)]

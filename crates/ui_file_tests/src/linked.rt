@@ -37,7 +37,13 @@ fn declare(
     line: u32,
     value: u128,
 ) -> Result<(), NoMemory>
-    ensures { OnOk result («package».new ≡ with_decls «package».old (insert «package».old.decls name.now (record { file = 102 ∷ []; line = line; column = 7; value = value }))) }
+    ensures { OnOk result («package».new ≡ with_decls «package».old
+        (insert «package».old.decls name.now (record {
+          file = 102 ∷ [];
+          line = line;
+          column = 7;
+          value = value;
+        }))) }
 {
     let file = Text::from_slice(alloc, b"f")?;
     let pos = Pos { file, line, col: 7 };
@@ -48,7 +54,11 @@ fn declare(
 
 // A package below, always of one fingerprint.
 fn below_of(alloc: Global, path: &[u8], direct: bool) -> Result<Below, NoMemory>
-    ensures { IfOk result (λ b. below b ≡ record { path = path.now; print = replicate 8 9; direct = direct }) }
+    ensures { IfOk result (λ b. below b ≡ record {
+      path = path.now;
+      print = replicate 8 9;
+      direct = direct;
+    }) }
 {
     let path = Text::from_slice(alloc, path)?;
     let print = [9; 8];
@@ -59,7 +69,8 @@ fn below_of(alloc: Global, path: &[u8], direct: bool) -> Result<Below, NoMemory>
     })
 }
 
-// The package `x/a` with two constants, over a direct import and one that isn't direct, of one fingerprint.
+// The package `x/a` with two constants, over a direct import and one that isn't direct, of one
+// fingerprint.
 fn sample(rt: &(impl Abort + AllocGlobal)) -> Result<Linked, NoMemory>
     ensures { IfOk result IsSmall }
 {
@@ -191,7 +202,8 @@ fn private_roots(rt: HostRuntime) -> Result<(), Fail> {
     Ok(())
 }
 
-// The value of `N` in the container of the package `a` with these elements more, if it stands for a package; that has it.
+// The value of `N` in the container of the package `a` with these elements more, if it stands for a
+// package; that has it.
 fn value_in(
     alloc: Global,
     magnitude: &'static [u8],

@@ -69,7 +69,8 @@ fn declared_as(
     name: &Placed,
     tree: &ExprTree,
 ) -> Result<ConstantSum, PartFault>
-    ensures { GivesPart (form.declared_as name.now (sums.terms_of (has imports.now) (has own.now) (view tree.now))) result }
+    ensures { GivesPart (form.declared_as name.now
+        (sums.terms_of (has imports.now) (has own.now) (view tree.now))) result }
 {
     let terms = terms_of(alloc, imports, own, tree)?;
     let text = name.text.copy(alloc)?;
@@ -88,7 +89,8 @@ fn constant_of_group(
     spot: Spot,
     group: &ValueSpec,
 ) -> Result<ConstantSum, PartFault>
-    ensures { GivesPart (form.constant_of_group (has imports.now) (has own.now) spot (value_view group.now)) result }
+    ensures { GivesPart (form.constant_of_group (has imports.now) (has own.now) spot
+        (value_view group.now)) result }
 {
     let Some(name) = one_name(group.names.as_slice()) else {
         return Err(PartFault::NotTaken(spot));
@@ -110,7 +112,8 @@ fn constant_of_specs(
     spot: Spot,
     specs: &Specs<ValueSpec>,
 ) -> Result<ConstantSum, PartFault>
-    ensures { GivesPart (form.constant_of_specs (has imports.now) (has own.now) spot (specs_with value_view specs.now)) result }
+    ensures { GivesPart (form.constant_of_specs (has imports.now) (has own.now) spot
+        (specs_with value_view specs.now)) result }
 {
     match specs {
         Specs::One(group) => constant_of_group(alloc, imports, own, spot, group),
@@ -125,7 +128,8 @@ fn constant_of(
     own: &Numbers,
     decl: &DeclTree,
 ) -> Result<ConstantSum, PartFault>
-    ensures { GivesPart (form.constant_of (has imports.now) (has own.now) (decl_view decl.now)) result }
+    ensures { GivesPart (form.constant_of (has imports.now) (has own.now) (decl_view decl.now))
+        result }
 {
     match decl {
         DeclTree::Common(CommonTree::Const { spot, specs }) => {
@@ -144,7 +148,8 @@ pub(crate) fn constants_in(
     imports: &Numbers,
     decls: &[DeclTree],
 ) -> Result<Items<ConstantSum>, PartFault>
-    ensures { GivesPart (form.constants_of (has imports.now) nothing (map decl_view decls.now)) result }
+    ensures { GivesPart (form.constants_of (has imports.now) nothing (map decl_view decls.now))
+        result }
 {
     let mut own = Numbers::new(alloc);
     let mut constants = Items::new(alloc);

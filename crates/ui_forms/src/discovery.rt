@@ -26,7 +26,8 @@ fn add_group(paths: &mut Numbers, group: &[ImportSpec]) -> Result<(), NoMemory>
 
 // Adds the paths of an import declaration.
 fn add_import(paths: &mut Numbers, import: &ImportTree) -> Result<(), NoMemory>
-    ensures { OnOk result (paths.new ≡ set_with paths.old (spec_paths (import_view import.now).specs)) }
+    ensures { OnOk result (paths.new ≡ set_with paths.old
+        (spec_paths (import_view import.now).specs)) }
 {
     match &import.specs {
         Specs::One(spec) => {
@@ -39,7 +40,8 @@ fn add_import(paths: &mut Numbers, import: &ImportTree) -> Result<(), NoMemory>
 
 // Adds the paths of import declarations.
 fn add_imports(paths: &mut Numbers, imports: &[ImportTree]) -> Result<(), NoMemory>
-    ensures { OnOk result (paths.new ≡ set_with paths.old (import_paths (map import_view imports.now))) }
+    ensures { OnOk result (paths.new ≡ set_with paths.old
+        (import_paths (map import_view imports.now))) }
 {
     for import in imports {
         add_import(paths, import)?;
@@ -72,7 +74,8 @@ fn text_of(alloc: Global, path: &[u8]) -> Result<String, NoMemory>
 // The paths of a map, ascending.
 fn paths_of(alloc: Global, numbers: &BTreeMap<Vec<u8>, usize>) -> Result<Vec<String>, NoMemory>
     requires { AllByRecursion (λ p. is_path p ≡ true) (keys (numbers_of numbers.now.entries)) }
-    ensures { IfOk result (λ v. map (λ s. string_bytes s) v.items ≡ keys (numbers_of numbers.now.entries)) }
+    ensures { IfOk result (λ v. map (λ s. string_bytes s) v.items
+        ≡ keys (numbers_of numbers.now.entries)) }
 {
     let mut paths = Vec::new(alloc);
     for (path, _number) in numbers {
@@ -84,7 +87,8 @@ fn paths_of(alloc: Global, numbers: &BTreeMap<Vec<u8>, usize>) -> Result<Vec<Str
 /// The paths that files import, by whatever import declarations, ascending by bytes, each once.
 pub fn imports_of(alloc: Global, files: &[FileTree]) -> Result<Vec<String>, NoMemory>
     requires { AllByRecursion (λ path. is_path path ≡ true) (file_paths (map file_view files.now)) }
-    ensures { IfOk result (λ paths. map (λ s. string_bytes s) paths.items ≡ form.imports_of (map file_view files.now)) }
+    ensures { IfOk result (λ paths. map (λ s. string_bytes s) paths.items
+        ≡ form.imports_of (map file_view files.now)) }
 {
     let numbers = paths_in(alloc, files)?;
     let paths = paths_of(alloc, &numbers.map)?;

@@ -38,7 +38,8 @@ impl Model for Form {
 
     ghost view = { λ f. form_with f.path f.name f.parts };
 
-    ghost invariant = { λ f. IsKept (form_with f.path f.name f.parts) (map (λ s. string_bytes s) f.paths.items) };
+    ghost invariant = { λ f. IsKept (form_with f.path f.name f.parts)
+        (map (λ s. string_bytes s) f.paths.items) };
 }
 
 impl Form {
@@ -68,7 +69,11 @@ fn part_of(alloc: Global, own: &[u8], file: &FileTree) -> Result<Part, PartFault
 
 // A place in a file.
 fn place(alloc: Global, file: &[u8], spot: Spot) -> Result<Pos, NoMemory>
-    ensures { IfOk result (λ pos. pos ≡ record { file = file.now; line = spot.line; col = spot.col }) }
+    ensures { IfOk result (λ pos. pos ≡ record {
+      file = file.now;
+      line = spot.line;
+      col = spot.col;
+    }) }
 {
     Ok(Pos {
         file: Text::from_slice(alloc, file)?,
@@ -121,7 +126,11 @@ fn form_of_parts(
     requires some { form.has_sources (map source_of files.now) ≡ true }
     requires package { form.is_package path.now size (map source_of files.now) ≡ true }
     requires parts { form.parts_of path.now (map source_of files.now) ≡ Ok parts }
-    ensures { IfOk result (λ f. f ≡ record { path = path.now; name = words.last_segment path.now; parts = parts }) }
+    ensures { IfOk result (λ f. f ≡ record {
+      path = path.now;
+      name = words.last_segment path.now;
+      parts = parts;
+    }) }
 {
     let paths = imports_of(alloc, files)?;
     Ok(Form {
@@ -132,13 +141,14 @@ fn form_of_parts(
     })
 }
 
-/// The form of a package by its path, the size of its sources together and the trees of these, in ascending order of
-/// their store names.
+/// The form of a package by its path, the size of its sources together and the trees of these, in
+/// ascending order of their store names.
 ///
 /// # Errors
 ///
-/// `NotTaken` with the place of the first fault: at the front of the first source where the sources aren't those of such
-/// a package, or where names are repeated; else in the first declaration that isn't taken.
+/// `NotTaken` with the place of the first fault: at the front of the first source where the sources
+/// aren't those of such a package, or where names are repeated; else in the first declaration that
+/// isn't taken.
 pub fn form_of(
     alloc: Global,
     path: &str,

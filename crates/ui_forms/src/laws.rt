@@ -1,9 +1,10 @@
 // Laws of forms and verdicts.
-ghost use Rattle.ui_forms.specs.Laws.{ImportsAreFound, FormsAreSmall, PathsAreValid, PathIsKept, ExportsAreSmall, ExportHasPath};
+ghost use Rattle.ui_forms.specs.Laws.{ImportsAreFound, FormsAreSmall, PathsAreValid, PathIsKept};
+ghost use Rattle.ui_forms.specs.Laws.{ExportsAreSmall, ExportHasPath};
 ghost use Rattle.ui_forms.specs.Verdict.{IsLocal};
 
-/// A form has its package's path, and imports what its sources import, by valid paths. It is small, and so is what the
-/// package exports, in every environment: it can be written.
+/// A form has its package's path, and imports what its sources import, by valid paths. It is small,
+/// and so is what the package exports, in every environment: it can be written.
 pub fn accepted_forms()
     ensures path { PathIsKept }
     ensures found { ImportsAreFound }

@@ -1,7 +1,8 @@
-//! Packages of constants that are sums: the form of their sources by their trees, and the verdict on them.
+//! Packages of constants that are sums: the form of their sources by their trees, and the verdict
+//! on them.
 //!
-//! `specs/Form.antt` defines the form, and `specs/Verdict.antt` what a package of it exports over the packages that it
-//! imports, or its first fault.
+//! `specs/Form.antt` defines the form, and `specs/Verdict.antt` what a package of it exports over
+//! the packages that it imports, or its first fault.
 #![tactic(auto)]
 
 mod constant;

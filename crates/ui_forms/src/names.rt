@@ -1,5 +1,6 @@
 // The names of sources.
-ghost use Rattle.std.specs.Prelude.{◌≡◌, ◌∷◌, ◌++◌, ◌||◌, ℕ, List, true, false, map, IfOk, OnOk, MatchOption, if◌then◌else◌};
+ghost use Rattle.std.specs.Prelude.{◌≡◌, ◌∷◌, ◌++◌, ◌||◌, ℕ, List, true, false, map, IfOk, OnOk};
+ghost use Rattle.std.specs.Prelude.{MatchOption, if◌then◌else◌};
 ghost use Rattle.std.specs.List.{list_all};
 ghost use Rattle.ui_forms.specs.Choosing.{IsSet};
 ghost use Rattle.ui_forms.specs.Form as form;
@@ -43,7 +44,8 @@ fn are_apart(alloc: Global, names: &Numbers, imports: &[ImportPath]) -> Result<b
 
 // Whether this holds of the imports of each source.
 fn all_apart(alloc: Global, names: &Numbers, parts: &[Part]) -> Result<bool, NoMemory>
-    ensures { IfOk result (λ apart. apart ≡ list_all (λ p. form.are_apart (has names.now) (segments p.imports)) parts.now) }
+    ensures { IfOk result (λ apart. apart ≡ list_all
+        (λ p. form.are_apart (has names.now) (segments p.imports)) parts.now) }
 {
     for part in parts {
         if !are_apart(alloc, names, part.imports.as_slice())? {
@@ -55,8 +57,12 @@ fn all_apart(alloc: Global, names: &Numbers, parts: &[Part]) -> Result<bool, NoM
 
 // Adds the names of constants. Gives false where one is there.
 fn add_names(names: &mut Numbers, constants: &[ConstantSum]) -> Result<bool, NoMemory>
-    ensures new { IfOk result (λ new. (rest : List (List ℕ)) → are_new (has names.old) (map (λ c. c.name) constants.now ++ rest) ≡ (if new then are_new (has names.new) rest else false)) }
-    ensures added { IfOk result (λ new. new ≡ true → (text : List ℕ) → has names.new text ≡ (is_among (map (λ c. c.name) constants.now) text || has names.old text)) }
+    ensures new { IfOk result (λ new. (rest : List (List ℕ))
+        → are_new (has names.old) (map (λ c. c.name) constants.now ++ rest)
+        ≡ (if new then are_new (has names.new) rest else false)) }
+    ensures added { IfOk result (λ new. new ≡ true → (text : List ℕ)
+        → has names.new text ≡ (is_among (map (λ c. c.name) constants.now) text || has names.old
+        text)) }
 {
     for constant in constants {
         if !names.add(constant.name.bytes(), 0)? {
@@ -68,8 +74,10 @@ fn add_names(names: &mut Numbers, constants: &[ConstantSum]) -> Result<bool, NoM
 
 // The names of all constants, or nothing where one is repeated.
 fn names_of(alloc: Global, parts: &[Part]) -> Result<Option<Numbers>, NoMemory>
-    ensures new { IfOk result (λ names. MatchOption names (are_new nothing (form.names parts.now) ≡ false) (λ m. are_new nothing (form.names parts.now) ≡ true)) }
-    ensures set { IfOk result (λ names. MatchOption names (Unit {0}) (λ m. IsSet m (form.names parts.now))) }
+    ensures new { IfOk result (λ names. MatchOption names (are_new nothing (form.names parts.now)
+        ≡ false) (λ m. are_new nothing (form.names parts.now) ≡ true)) }
+    ensures set { IfOk result (λ names. MatchOption names (Unit {0})
+        (λ m. IsSet m (form.names parts.now))) }
 {
     let mut names = Numbers::new(alloc);
     for part in parts {

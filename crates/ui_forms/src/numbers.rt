@@ -67,8 +67,10 @@ impl Numbers {
 
 // Gives a text a number. Tells whether it had none.
 fn add(map: &mut BTreeMap<Vec<u8>, usize>, text: Vec<u8>, number: usize) -> Result<bool, NoMemory>
-    ensures added { IfOk result (λ added. added ≡ not (has (numbers_of map.old.entries) text.items)) }
-    ensures now { OnOk result (numbers_of map.new.entries ≡ insert (numbers_of map.old.entries) text.items number) }
+    ensures added { IfOk result (λ added. added
+        ≡ not (has (numbers_of map.old.entries) text.items)) }
+    ensures now { OnOk result (numbers_of map.new.entries
+        ≡ insert (numbers_of map.old.entries) text.items number) }
 {
     let old = map.insert(text, number)?;
     Ok(old.is_none())

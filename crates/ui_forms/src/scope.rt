@@ -32,11 +32,13 @@ impl<'a> Model for Scope<'a> {
 
     ghost view = { λ s. record { linked = s.linked.now; imports = s.imports.now } };
 
-    ghost invariant = { λ s. ArePlaces s.places.now s.linked.now × AreSegments s.segments s.imports.now };
+    ghost invariant = { λ s. ArePlaces s.places.now s.linked.now
+        × AreSegments s.segments s.imports.now };
 }
 
 impl<'a> Scope<'a> {
-    /// The constants of these imports, by what their linked files stand for and the places of these by their paths.
+    /// The constants of these imports, by what their linked files stand for and the places of these
+    /// by their paths.
     pub(crate) fn new(
         alloc: Global,
         linked: &'a [Linked],
@@ -44,7 +46,8 @@ impl<'a> Scope<'a> {
         imports: &'a [ImportPath],
     ) -> Result<Scope<'a>, NoMemory>
         requires { ArePlaces places.now linked.now }
-        ensures { IfOk result (λ scope. scope ≡ record { linked = linked.now; imports = imports.now }) }
+        ensures { IfOk result (λ scope. scope
+            ≡ record { linked = linked.now; imports = imports.now }) }
     {
         let segments = segments_of(alloc, imports)?;
         Ok(Scope {

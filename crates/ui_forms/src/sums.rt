@@ -124,7 +124,8 @@ fn alone(
     own: &Numbers,
     of: &ExprTree,
 ) -> Result<Items<Term>, PartFault>
-    ensures { GivesPart (sums.alone (sums.term_of (has imports.now) (has own.now) (view of.now))) result }
+    ensures { GivesPart (sums.alone (sums.term_of (has imports.now) (has own.now) (view of.now)))
+        result }
 {
     let term = term_of(alloc, imports, own, of)?;
     let mut terms = Items::new(alloc);

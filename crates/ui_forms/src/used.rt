@@ -16,7 +16,8 @@ use ui_base::{CheckFault, FaultKind, NoMemory};
 
 // Adds the segment that a term is of.
 fn add_term(used: &mut Numbers, term: &Term) -> Result<(), NoMemory>
-    ensures { OnOk result ((q : List ℕ) → has used.new q ≡ (has_segment q term.now || has used.old q)) }
+    ensures { OnOk result ((q : List ℕ) → has used.new q
+        ≡ (has_segment q term.now || has used.old q)) }
 {
     match term {
         Term::Digits { .. } => Ok(()),
@@ -30,7 +31,8 @@ fn add_term(used: &mut Numbers, term: &Term) -> Result<(), NoMemory>
 
 // Adds the segments that terms are of.
 fn add_used(used: &mut Numbers, terms: &[Term]) -> Result<(), NoMemory>
-    ensures { OnOk result ((q : List ℕ) → has used.new q ≡ (list_any (has_segment q) terms.now || has used.old q)) }
+    ensures { OnOk result ((q : List ℕ) → has used.new q
+        ≡ (list_any (has_segment q) terms.now || has used.old q)) }
 {
     for term in terms {
         add_term(used, term)?;
@@ -51,7 +53,8 @@ fn used_of(alloc: Global, constants: &[ConstantSum]) -> Result<Numbers, NoMemory
 
 // The first import that isn't used.
 fn unused<'a>(used: &Numbers, imports: &'a [ImportPath]) -> Option<&'a ImportPath>
-    ensures { option_copied result ≡ find (λ i. not (has used.now (words.last_segment i.path))) imports.now }
+    ensures { option_copied result ≡ find (λ i. not (has used.now (words.last_segment i.path)))
+        imports.now }
 {
     imports
         .iter()
@@ -60,8 +63,10 @@ fn unused<'a>(used: &Numbers, imports: &'a [ImportPath]) -> Option<&'a ImportPat
 
 // Whether all imports of a source are used; else the fault of the first that isn't.
 fn check_part(alloc: Global, part: &Part) -> Result<(), CheckFault>
-    ensures used { IfOk result (λ done. used_or part.now.file (verdicts.unused part.now) ≡ Ok done) }
-    ensures refused { IfErr result (λ e. IsRefusal (used_or part.now.file (verdicts.unused part.now)) e) }
+    ensures used { IfOk result (λ done. used_or part.now.file (verdicts.unused part.now)
+        ≡ Ok done) }
+    ensures refused { IfErr result (λ e. IsRefusal
+        (used_or part.now.file (verdicts.unused part.now)) e) }
 {
     let used = used_of(alloc, part.constants.as_slice())?;
     match unused(&used, part.imports.as_slice()) {

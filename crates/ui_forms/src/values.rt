@@ -1,5 +1,6 @@
 // The values of terms and sums.
-ghost use Rattle.std.specs.Prelude.{◌≡◌, ◌+◌, ◌^◌, ◌<◌, [], Ok, Some, None, nat_lt, if◌then◌else◌, IfOk, IfErr};
+ghost use Rattle.std.specs.Prelude.{◌≡◌, ◌+◌, ◌^◌, ◌<◌, [], Ok, Some, None, nat_lt, if◌then◌else◌};
+ghost use Rattle.std.specs.Prelude.{IfOk, IfErr};
 ghost use Rattle.ui_forms.specs.Choosing.{IsFault};
 ghost use Rattle.ui_forms.specs.Scope.{selection_of};
 ghost use Rattle.ui_base.specs.Steps.{and_then};
@@ -118,9 +119,13 @@ fn add_term(
     scope: &Scope,
 ) -> Result<u128, CheckFault>
     requires { sum < 2 ^ 127 }
-    ensures value { IfOk result (λ next. and_then (verdicts.added (fault_at file.now ConstTooBig first []) sum) (term_value (selection_of scope.now) file.now before.now.decls term.now) ≡ Ok next) }
+    ensures value { IfOk result (λ next. and_then
+        (verdicts.added (fault_at file.now ConstTooBig first []) sum)
+        (term_value (selection_of scope.now) file.now before.now.decls term.now) ≡ Ok next) }
     ensures small { IfOk result (λ next. next < 2 ^ 127) }
-    ensures refused { IfErr result (λ e. IsRefusal (and_then (verdicts.added (fault_at file.now ConstTooBig first []) sum) (term_value (selection_of scope.now) file.now before.now.decls term.now)) e) }
+    ensures refused { IfErr result (λ e. IsRefusal
+        (and_then (verdicts.added (fault_at file.now ConstTooBig first []) sum)
+        (term_value (selection_of scope.now) file.now before.now.decls term.now)) e) }
 {
     match value_of(term, before, scope) {
         Some(value) => match added(sum, value) {
@@ -145,8 +150,11 @@ pub(crate) fn constant_value(
     before: &Package,
     scope: &Scope,
 ) -> Result<u128, CheckFault>
-    ensures value { IfOk result (λ value. verdicts.constant_value (selection_of scope.now) file.now before.now.decls constant.now ≡ Ok value) }
-    ensures refused { IfErr result (λ e. IsRefusal (verdicts.constant_value (selection_of scope.now) file.now before.now.decls constant.now) e) }
+    ensures value { IfOk result (λ value. verdicts.constant_value
+        (selection_of scope.now) file.now before.now.decls constant.now ≡ Ok value) }
+    ensures refused { IfErr result (λ e. IsRefusal
+        (verdicts.constant_value (selection_of scope.now) file.now before.now.decls constant.now)
+        e) }
 {
     let first = first_spot(constant.terms.as_slice());
     let mut sum = 0;

@@ -6,7 +6,8 @@ ghost use Rattle.ui_forms.specs.Scope.{ArePlaces, selection_of};
 ghost use Rattle.ui_forms.specs.Size.{IsSmallExport};
 ghost use Rattle.ui_base.specs.Steps.{and_then};
 ghost use Rattle.ui_forms.specs.Verdict as verdicts;
-ghost use Rattle.ui_forms.specs.Verdict.{environment_of, value_from, verdict, constant_value, declared_from, parts_from, IsRefusal};
+ghost use Rattle.ui_forms.specs.Verdict.{environment_of, value_from, verdict, constant_value};
+ghost use Rattle.ui_forms.specs.Verdict.{declared_from, parts_from, IsRefusal};
 
 use crate::form::Form;
 use crate::numbers::Numbers;
@@ -26,7 +27,9 @@ fn add_constant(
     value: u128,
     exported: &mut Package,
 ) -> Result<(), NoMemory>
-    ensures { OnOk result (exported.new ≡ with_decls exported.old (insert exported.old.decls constant.now.name (verdicts.declared file.now constant.now value))) }
+    ensures { OnOk result (exported.new ≡ with_decls exported.old
+        (insert exported.old.decls constant.now.name
+        (verdicts.declared file.now constant.now value))) }
 {
     let name = Vec::from_slice(alloc, constant.name.bytes())?;
     let pos = Pos {
@@ -46,9 +49,14 @@ fn declare(
     exported: &mut Package,
     scope: &Scope,
 ) -> Result<(), CheckFault>
-    ensures accepted { OnOk result (and_then (λ value. Ok (insert exported.old.decls constant.now.name (verdicts.declared file.now constant.now value))) (constant_value (selection_of scope.now) file.now exported.old.decls constant.now) ≡ Ok exported.new.decls) }
+    ensures accepted { OnOk result (and_then (λ value. Ok
+        (insert exported.old.decls constant.now.name
+        (verdicts.declared file.now constant.now value)))
+        (constant_value (selection_of scope.now) file.now exported.old.decls constant.now)
+        ≡ Ok exported.new.decls) }
     ensures stays { OnOk result (exported.new ≡ with_decls exported.old exported.new.decls) }
-    ensures refused { IfErr result (λ e. IsRefusal (constant_value (selection_of scope.now) file.now exported.old.decls constant.now) e) }
+    ensures refused { IfErr result (λ e. IsRefusal
+        (constant_value (selection_of scope.now) file.now exported.old.decls constant.now) e) }
 {
     match values::constant_value(alloc, file, constant, exported, scope) {
         Ok(value) => {
@@ -67,9 +75,12 @@ fn declare_all(
     exported: &mut Package,
     scope: &Scope,
 ) -> Result<(), CheckFault>
-    ensures accepted { OnOk result (declared_from (selection_of scope.now) file.now exported.old.decls constants.now ≡ Ok exported.new.decls) }
+    ensures accepted { OnOk result (declared_from
+        (selection_of scope.now) file.now exported.old.decls constants.now
+        ≡ Ok exported.new.decls) }
     ensures stays { OnOk result (exported.new ≡ with_decls exported.old exported.new.decls) }
-    ensures refused { IfErr result (λ e. IsRefusal (declared_from (selection_of scope.now) file.now exported.old.decls constants.now) e) }
+    ensures refused { IfErr result (λ e. IsRefusal
+        (declared_from (selection_of scope.now) file.now exported.old.decls constants.now) e) }
 {
     for constant in constants {
         match declare(alloc, file, constant, exported, scope) {
@@ -80,7 +91,8 @@ fn declare_all(
     Ok(())
 }
 
-// Declares the constants of a source, by the linked files of the package's imports and their places.
+// Declares the constants of a source, by the linked files of the package's imports and their
+// places.
 fn declare_part(
     alloc: Global,
     part: &Part,
@@ -89,9 +101,13 @@ fn declare_part(
     places: &Numbers,
 ) -> Result<(), CheckFault>
     requires { ArePlaces places.now imports.now }
-    ensures accepted { OnOk result (declared_from (value_from (environment_of imports.now) part.now.imports) part.now.file exported.old.decls part.now.constants ≡ Ok exported.new.decls) }
+    ensures accepted { OnOk result (declared_from
+        (value_from (environment_of imports.now) part.now.imports) part.now.file exported.old.decls
+        part.now.constants ≡ Ok exported.new.decls) }
     ensures stays { OnOk result (exported.new ≡ with_decls exported.old exported.new.decls) }
-    ensures refused { IfErr result (λ e. IsRefusal (declared_from (value_from (environment_of imports.now) part.now.imports) part.now.file exported.old.decls part.now.constants) e) }
+    ensures refused { IfErr result (λ e. IsRefusal
+        (declared_from (value_from (environment_of imports.now) part.now.imports) part.now.file
+        exported.old.decls part.now.constants) e) }
 {
     let scope = Scope::new(alloc, imports, places, part.imports.as_slice())?;
     declare_all(
@@ -112,9 +128,11 @@ fn declare_parts(
     places: &Numbers,
 ) -> Result<(), CheckFault>
     requires { ArePlaces places.now imports.now }
-    ensures accepted { OnOk result (parts_from (environment_of imports.now) exported.old.decls parts.now ≡ Ok exported.new.decls) }
+    ensures accepted { OnOk result (parts_from (environment_of imports.now) exported.old.decls
+        parts.now ≡ Ok exported.new.decls) }
     ensures stays { OnOk result (exported.new ≡ with_decls exported.old exported.new.decls) }
-    ensures refused { IfErr result (λ e. IsRefusal (parts_from (environment_of imports.now) exported.old.decls parts.now) e) }
+    ensures refused { IfErr result (λ e. IsRefusal
+        (parts_from (environment_of imports.now) exported.old.decls parts.now) e) }
 {
     for part in parts {
         match declare_part(alloc, part, exported, imports, places) {
@@ -133,9 +151,15 @@ fn declared(
     parts: &[Part],
     imports: &[Linked],
 ) -> Result<Package, CheckFault>
-    ensures accepted { IfOk result (λ p. parts_from (environment_of imports.now) empty parts.now ≡ Ok p.decls) }
-    ensures named { IfOk result (λ p. p ≡ record { path = path.now; name = name.now; decls = p.decls }) }
-    ensures refused { IfErr result (λ e. IsRefusal (parts_from (environment_of imports.now) empty parts.now) e) }
+    ensures accepted { IfOk result (λ p. parts_from (environment_of imports.now) empty parts.now
+        ≡ Ok p.decls) }
+    ensures named { IfOk result (λ p. p ≡ record {
+      path = path.now;
+      name = name.now;
+      decls = p.decls;
+    }) }
+    ensures refused { IfErr result (λ e. IsRefusal
+        (parts_from (environment_of imports.now) empty parts.now) e) }
 {
     let places = places_of(alloc, imports)?;
     let mut package = Package::new(alloc, path, name)?;
@@ -145,12 +169,13 @@ fn declared(
     }
 }
 
-/// What a package exports over its imports, or its first fault: a name that an import doesn't have, or a sum past
-/// 2^127 - 1, whichever stands first; else the first import of a source that it doesn't use. `imports` are what the
-/// linked files of the form's imports stand for.
+/// What a package exports over its imports, or its first fault: a name that an import doesn't have,
+/// or a sum past 2^127 - 1, whichever stands first; else the first import of a source that it
+/// doesn't use. `imports` are what the linked files of the form's imports stand for.
 pub fn check(alloc: Global, form: &Form, imports: &[Linked]) -> Result<Package, CheckFault>
     ensures accepted { IfOk result (λ p. verdict (environment_of imports.now) form.now ≡ Ok p) }
-    ensures refused { IfErr result (λ fault. IsRefusal (verdict (environment_of imports.now) form.now) fault) }
+    ensures refused { IfErr result (λ fault. IsRefusal
+        (verdict (environment_of imports.now) form.now) fault) }
     ensures own { IfOk result (λ p. p.path ≡ form.now.path) }
     ensures small { IfOk result IsSmallExport }
 {

@@ -1,9 +1,13 @@
 // The container, read: its tests, its parts and its fingerprint.
-ghost use Rattle.std.specs.Prelude.{◌≡◌, ◌+◌, ◌*◌, ◌<◌, ◌≤◌, ◌∷◌, [], ℕ, true, false, List, length, take, IfNone, IfSome, IfOk, IfErr, OnOk, slice_get, slice_index, slice_index_or, slice_range};
+ghost use Rattle.std.specs.Prelude.{◌≡◌, ◌+◌, ◌*◌, ◌<◌, ◌≤◌, ◌∷◌, [], ℕ, true, false, List, length};
+ghost use Rattle.std.specs.Prelude.{take, IfNone, IfSome, IfOk, IfErr, OnOk, slice_get};
+ghost use Rattle.std.specs.Prelude.{slice_index, slice_index_or, slice_range};
 ghost use Rattle.std.specs.Option.{option_copied};
 ghost use Rattle.ui_frame.specs.Laws.{IsBytes};
-ghost use Rattle.ui_frame.specs.Container.{Parts, section, elements, fingerprint, fingerprint_after, IsContainer};
-ghost use Rattle.ui_frame.specs.Opening.{ascends, first_failing, kept_in, last_from, parts_in, word_at, words_at};
+ghost use Rattle.ui_frame.specs.Container.{Parts, section, elements, fingerprint};
+ghost use Rattle.ui_frame.specs.Container.{fingerprint_after, IsContainer};
+ghost use Rattle.ui_frame.specs.Opening.{ascends, first_failing, kept_in, last_from, parts_in};
+ghost use Rattle.ui_frame.specs.Opening.{word_at, words_at};
 
 use crate::section::Section;
 use byteorder::{ByteOrder, LittleEndian};
@@ -175,7 +179,8 @@ fn read_word(bytes: &[u8], place: usize) -> u32
     LittleEndian::read_u32(&bytes[place..])
 }
 
-// The last of so many numbers from a place on, or 0 without any, where none is less than the one before.
+// The last of so many numbers from a place on, or 0 without any, where none is less than the one
+// before.
 fn last_ascending(bytes: &[u8], count: usize, place: usize) -> Option<u32>
     requires { place + 4 * count ≤ length bytes.now }
     ensures up { IfSome result (λ last. ascends 0 (words_at count place bytes.now) ≡ true) }
@@ -231,14 +236,22 @@ pub(crate) fn fingerprint_of(bytes: &[u8]) -> [u8; 8]
 
 /// The tests pass for the containers and for nothing else, and a container has one list of parts.
 pub fn one_container()
-    ensures passes { (bytes : List ℕ) (parts : Parts) → IsContainer bytes parts → first_failing bytes ≡ None }
-    ensures found { (bytes : List ℕ) → IsBytes bytes → first_failing bytes ≡ None → IsContainer bytes (parts_in bytes) }
-    ensures one { (bytes : List ℕ) (parts other : Parts) → IsContainer bytes parts → IsContainer bytes other → parts ≡ other }
+    ensures passes { (bytes : List ℕ) (parts : Parts) → IsContainer bytes parts
+        → first_failing bytes ≡ None }
+    ensures found { (bytes : List ℕ) → IsBytes bytes → first_failing bytes ≡ None
+        → IsContainer bytes (parts_in bytes) }
+    ensures one { (bytes : List ℕ) (parts other : Parts) → IsContainer bytes parts
+        → IsContainer bytes other → parts ≡ other }
 {}
 
 /// A container that is cut short is no container, and it is refused by where it is cut.
 pub fn cut_short()
-    ensures short { (bytes : List ℕ) (parts : Parts) (n : ℕ) → IsContainer bytes parts → n < 56 → first_failing (take n bytes) ≡ Some FrameFault.Short }
-    ensures counts { (bytes : List ℕ) (parts : Parts) (n : ℕ) → IsContainer bytes parts → 56 ≤ n → n < 56 + 4 * length (elements parts) → first_failing (take n bytes) ≡ Some FrameFault.Counts }
-    ensures length { (bytes : List ℕ) (parts : Parts) (n : ℕ) → IsContainer bytes parts → 56 + 4 * length (elements parts) ≤ n → n < length bytes → first_failing (take n bytes) ≡ Some FrameFault.Length }
+    ensures short { (bytes : List ℕ) (parts : Parts) (n : ℕ) → IsContainer bytes parts → n < 56
+        → first_failing (take n bytes) ≡ Some FrameFault.Short }
+    ensures counts { (bytes : List ℕ) (parts : Parts) (n : ℕ) → IsContainer bytes parts → 56 ≤ n
+        → n < 56 + 4 * length (elements parts)
+        → first_failing (take n bytes) ≡ Some FrameFault.Counts }
+    ensures length { (bytes : List ℕ) (parts : Parts) (n : ℕ) → IsContainer bytes parts
+        → 56 + 4 * length (elements parts) ≤ n → n < length bytes
+        → first_failing (take n bytes) ≡ Some FrameFault.Length }
 {}

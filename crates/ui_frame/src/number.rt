@@ -1,5 +1,6 @@
 // Numbers and truth values as bytes, each in its shortest spelling.
-ghost use Rattle.std.specs.Prelude.{◌≡◌, ◌↔◌, ℕ, ℤ, Bool, List, take, ◌+◌, ◌<◌, ◌≤◌, ◌^◌, ◌++◌, length, drop, IfOk, OnOk, OnErr};
+ghost use Rattle.std.specs.Prelude.{◌≡◌, ◌↔◌, ℕ, ℤ, Bool, List, take, ◌+◌, ◌<◌, ◌≤◌, ◌^◌, ◌++◌};
+ghost use Rattle.std.specs.Prelude.{length, drop, IfOk, OnOk, OnErr};
 ghost use Rattle.ui_frame.specs.Laws.{IsBytes};
 ghost use Rattle.ui_frame.specs.Number.{AppendsFront, IsCutUint, IsUint, uint, int, truth, zigzag};
 ghost use Rattle.ui_frame.specs.declared.number.NumFault.{NumFault};
@@ -48,7 +49,8 @@ fn leading_number(bytes: &[u8], limit: u64) -> Result<(u64, usize), NumFault>
     }
 }
 
-/// The number at a place, and the place after it. Fails with `Cut` or `LongNumber`. Takes no memory.
+/// The number at a place, and the place after it. Fails with `Cut` or `LongNumber`. Takes no
+/// memory.
 #[tactic(auto, unfolding(crate::specs::Reading::uint_at))]
 pub fn get_uint(bytes: &[u8], at: usize) -> Result<(u64, usize), NumFault>
     requires { at ≤ length bytes.now }
@@ -78,7 +80,8 @@ pub fn get_int(bytes: &[u8], at: usize) -> Result<(i64, usize), NumFault>
     }
 }
 
-/// The truth value at a place, and the place after it. Fails with `Cut` or `BadBool`. Takes no memory.
+/// The truth value at a place, and the place after it. Fails with `Cut` or `BadBool`. Takes no
+/// memory.
 #[tactic(auto, unfolding(crate::specs::Reading::truth_at))]
 pub fn get_bool(bytes: &[u8], at: usize) -> Result<(bool, usize), NumFault>
     requires { at ≤ length bytes.now }
@@ -130,24 +133,33 @@ pub fn put_bool(alloc: Global, out: &mut Vec<u8>, b: bool) -> Result<(), NoMemor
     Ok(())
 }
 
-/// What is appended for a number is in the grammar of numbers, and nothing else is. No spelling begins
-/// another. Reading finds exactly what is in the grammar, whatever follows it, and tells a spelling that
-/// is cut from what begins no spelling.
+/// What is appended for a number is in the grammar of numbers, and nothing else is. No spelling
+/// begins another. Reading finds exactly what is in the grammar, whatever follows it, and tells a
+/// spelling that is cut from what begins no spelling.
 pub fn one_spelling()
     ensures grammar { (n : ℕ) → n < 2 ^ 64 → IsUint (uint n) n }
     ensures only { (bytes : List ℕ) (n : ℕ) → n < 2 ^ 64 → IsUint bytes n → bytes ≡ uint n }
-    ensures begins { (a b x y : List ℕ) (m n : ℕ) → IsUint a m → IsUint b n → a ++ x ≡ b ++ y → (a ≡ b) × (m ≡ n) }
-    ensures read { (bytes : List ℕ) (n : ℕ) (rest : List ℕ) → n < 2 ^ 64 → IsUint bytes n → uint_at (bytes ++ rest) ≡ Ok (n, length bytes) }
-    ensures found { (bytes : List ℕ) (x : ℕ × ℕ) → IsBytes bytes → uint_at bytes ≡ Ok x → IsUint (take x.1 bytes) x.0 × (x.0 < 2 ^ 64) }
-    ensures cut { (bytes : List ℕ) → IsBytes bytes → (uint_at bytes ≡ Err NumFault.Cut) ↔ IsCutUint bytes }
+    ensures begins { (a b x y : List ℕ) (m n : ℕ) → IsUint a m → IsUint b n → a ++ x ≡ b ++ y
+        → (a ≡ b) × (m ≡ n) }
+    ensures read { (bytes : List ℕ) (n : ℕ) (rest : List ℕ) → n < 2 ^ 64 → IsUint bytes n
+        → uint_at (bytes ++ rest) ≡ Ok (n, length bytes) }
+    ensures found { (bytes : List ℕ) (x : ℕ × ℕ) → IsBytes bytes → uint_at bytes ≡ Ok x
+        → IsUint (take x.1 bytes) x.0 × (x.0 < 2 ^ 64) }
+    ensures cut { (bytes : List ℕ) → IsBytes bytes
+        → (uint_at bytes ≡ Err NumFault.Cut) ↔ IsCutUint bytes }
     ensures faults { (bytes : List ℕ) → uint_at bytes ≡ Err NumFault.BadBool → ⊥ }
 {}
 
-/// The same for signed numbers, whose spelling is that of a number without a sign, and for truth values.
+/// The same for signed numbers, whose spelling is that of a number without a sign, and for truth
+/// values.
 pub fn one_signed_spelling()
-    ensures read { (z : ℤ) (rest : List ℕ) → zigzag z < 2 ^ 64 → int_at (int z ++ rest) ≡ Ok (z, length (int z)) }
-    ensures found { (bytes : List ℕ) (x : ℤ × ℕ) → IsBytes bytes → int_at bytes ≡ Ok x → (take x.1 bytes ≡ int x.0) × (zigzag x.0 < 2 ^ 64) }
-    ensures faults { (bytes : List ℕ) (fault : NumFault) → (int_at bytes ≡ Err fault) ↔ (uint_at bytes ≡ Err fault) }
+    ensures read { (z : ℤ) (rest : List ℕ) → zigzag z < 2 ^ 64
+        → int_at (int z ++ rest) ≡ Ok (z, length (int z)) }
+    ensures found { (bytes : List ℕ) (x : ℤ × ℕ) → IsBytes bytes → int_at bytes ≡ Ok x
+        → (take x.1 bytes ≡ int x.0) × (zigzag x.0 < 2 ^ 64) }
+    ensures faults { (bytes : List ℕ) (fault : NumFault)
+        → (int_at bytes ≡ Err fault) ↔ (uint_at bytes ≡ Err fault) }
     ensures truth_read { (b : Bool) (rest : List ℕ) → truth_at (truth b ++ rest) ≡ Ok (b, 1) }
-    ensures truth_found { (bytes : List ℕ) (x : Bool × ℕ) → truth_at bytes ≡ Ok x → take x.1 bytes ≡ truth x.0 }
+    ensures truth_found { (bytes : List ℕ) (x : Bool × ℕ) → truth_at bytes ≡ Ok x
+        → take x.1 bytes ≡ truth x.0 }
 {}

@@ -1,6 +1,7 @@
 // The container, written.
 ghost use Rattle.std.specs.Prelude.{◌≡◌, ◌↔◌, length, IfOk, OnOk, OnErr};
-ghost use Rattle.ui_frame.specs.Container.{section, no_elements, with_element, IsContainer, IsTooMany};
+ghost use Rattle.ui_frame.specs.Container.{section, no_elements, with_element, IsContainer};
+ghost use Rattle.ui_frame.specs.Container.{IsTooMany};
 
 use crate::NoMemory;
 use crate::frame::{FLAGS, VERSION, fingerprint_of};
@@ -28,10 +29,11 @@ impl From<AllocError> for OutFault {
     }
 }
 
-/// A container that is being written, element by element. Elements may be added to the sections in any
-/// order.
+/// A container that is being written, element by element. Elements may be added to the sections in
+/// any order.
 ///
-/// A contract sees it as the parts so far: ten sections, each a list of elements, each a list of bytes.
+/// A contract sees it as the parts so far: ten sections, each a list of elements, each a list of
+/// bytes.
 #[derive(Debug, Drop)]
 pub struct FrameOut {
     sections: [SectionOut; 10],
@@ -47,7 +49,8 @@ impl Model for FrameOut {
 
     ghost view = { λ f. f.sections };
 
-    ghost invariant = { λ f. HasContainer f.sections × (f.count ≡ length (elements f.sections)) × (f.size ≡ length (contents f.sections)) };
+    ghost invariant = { λ f. HasContainer f.sections × (f.count ≡ length (elements f.sections))
+        × (f.size ≡ length (contents f.sections)) };
 }
 
 impl FrameOut {

@@ -1,5 +1,6 @@
 // The elements of one section that is being written.
-ghost use Rattle.std.specs.Prelude.{◌≡◌, ◌+◌, ◌^◌, ◌<◌, ◌++◌, ◌∷◌, [], ℕ, List, length, map, slice_index, OnOk, OnErr};
+ghost use Rattle.std.specs.Prelude.{◌≡◌, ◌+◌, ◌^◌, ◌<◌, ◌++◌, ◌∷◌, [], ℕ, List, length, map};
+ghost use Rattle.std.specs.Prelude.{slice_index, OnOk, OnErr};
 ghost use Rattle.ui_frame.specs.Container.{ends_of, joined, running, word, words};
 
 use crate::NoMemory;
@@ -22,7 +23,8 @@ impl Model for SectionOut {
 
     ghost view = { λ s. cut 0 s.ends.items s.bytes.items };
 
-    ghost invariant = { λ s. (ascends 0 s.ends.items ≡ true) × (last_from 0 s.ends.items ≡ length s.bytes.items) };
+    ghost invariant = { λ s. (ascends 0 s.ends.items ≡ true)
+        × (last_from 0 s.ends.items ≡ length s.bytes.items) };
 }
 
 impl SectionOut {
@@ -68,7 +70,8 @@ impl SectionOut {
     /// Appends the running ends of the elements, counted on from `start`.
     pub(crate) fn put_ends(&self, start: u32, out: &mut Vec<u8>) -> Result<(), NoMemory>
         requires { start + length (joined self.now) < 2 ^ 32 }
-        ensures { OnOk result (out.new.items ≡ out.old.items ++ words (running start (map length self.now))) }
+        ensures { OnOk result (out.new.items ≡ out.old.items ++ words
+            (running start (map length self.now))) }
     {
         put_shifted(&self.ends, start, out)
     }

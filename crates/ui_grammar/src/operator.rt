@@ -70,7 +70,8 @@ pub fn assignment_of(kind: TokenKind) -> Option<BinOp>
     }
 }
 
-/// How tightly a binary operator binds, from 1, the weakest, to 5. Go specification, "Operator precedence".
+/// How tightly a binary operator binds, from 1, the weakest, to 5. Go specification, "Operator
+/// precedence".
 pub fn level_of(op: BinOp) -> u8
     ensures { result ≡ spec.level_of op }
 {

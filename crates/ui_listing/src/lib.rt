@@ -1,4 +1,5 @@
-//! What a container has, as lines of text: the elements of each section with their lengths, and the fingerprint.
+//! What a container has, as lines of text: the elements of each section with their lengths, and the
+//! fingerprint.
 #![tactic(auto)]
 
 mod listing;

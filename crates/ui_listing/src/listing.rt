@@ -111,7 +111,8 @@ fn put_section(out: &mut Vec<u8>, frame: &Frame<'_>, s: Section) -> Result<(), N
 }
 
 fn put_sections(out: &mut Vec<u8>, frame: &Frame<'_>, list: &[Section]) -> Result<(), NoMemory>
-    ensures { OnOk result (out.new.items ≡ out.old.items ++ flat_map (section_lines frame.now) list.now) }
+    ensures { OnOk result (out.new.items ≡ out.old.items ++ flat_map
+        (section_lines frame.now) list.now) }
 {
     for s in list {
         put_section(out, frame, *s)?;
@@ -137,8 +138,8 @@ fn put_fingerprint(out: &mut Vec<u8>, frame: &Frame<'_>) -> Result<(), NoMemory>
     put_text(out, b"\n")
 }
 
-/// The lines of a container: its version, each section with the number of its elements and of their bytes, each element
-/// with its number and length, and the fingerprint.
+/// The lines of a container: its version, each section with the number of its elements and of their
+/// bytes, each element with its number and length, and the fingerprint.
 pub fn list_container(alloc: Global, frame: &Frame<'_>) -> Result<Vec<u8>, NoMemory>
     ensures { IfOk result (λ v. v.items ≡ spec.listing frame.now) }
 {

@@ -1,10 +1,15 @@
-// Numbers on cycles. One walk along links finds the strongly connected components, so that each number and each link is
-// looked at once: a number is on a cycle where its component has another number, or it links to itself.
-ghost use Rattle.std.specs.Prelude.{◌≡◌, ◌↔◌, ◌<◌, ◌≤◌, ◌-◌, ◌++◌, ℕ, List, [], ◌∷◌, length, get_or, take, true, IfOk, OnOk, IsTrue, IsFalse, nat_eq, vec_len};
+// Numbers on cycles. One walk along links finds the strongly connected components, so that each
+// number and each link is looked at once: a number is on a cycle where its component has another
+// number, or it links to itself.
+ghost use Rattle.std.specs.Prelude.{◌≡◌, ◌↔◌, ◌<◌, ◌≤◌, ◌-◌, ◌++◌, ℕ, List, [], ◌∷◌, length};
+ghost use Rattle.std.specs.Prelude.{get_or, take, true, IfOk, OnOk, IsTrue, IsFalse, nat_eq};
+ghost use Rattle.std.specs.Prelude.{vec_len};
 ghost use Rattle.ui_order.specs.declared.cycle.Place.TheVariants.{Unseen};
 ghost use Rattle.ui_order.specs.Steps.{has};
 ghost use Rattle.ui_order.specs.Numbers.{Links, linked, AreLinked, IsFirstOnCycle};
-ghost use Rattle.ui_order.specs.Components.{place_in, is_seen, is_done, IsRising, ArePlaced, AreTold, AreKept, IsWalk, IsWalkAt, IsEntered, IsClosed, IsFollowed, IsStep, IsAtRest};
+ghost use Rattle.ui_order.specs.Components.{place_in, is_seen, is_done, IsRising, ArePlaced};
+ghost use Rattle.ui_order.specs.Components.{AreTold, AreKept, IsWalk, IsWalkAt, IsEntered};
+ghost use Rattle.ui_order.specs.Components.{IsClosed, IsFollowed, IsStep, IsAtRest};
 
 use std::alloc::Global;
 use ui_base::NoMemory;
@@ -65,7 +70,8 @@ fn enter(walk: &mut Walk, k: usize) -> Result<(), NoMemory>
 fn merge(bounds: &mut Vec<usize>, position: usize)
     requires { IsRising bounds.old.items }
     ensures rising { IsRising bounds.new.items }
-    ensures kept { (b : ℕ) → (has nat_eq bounds.new.items b ≡ true) ↔ ((has nat_eq bounds.old.items b ≡ true) × (b ≤ position)) }
+    ensures kept { (b : ℕ) → (has nat_eq bounds.new.items b ≡ true)
+        ↔ ((has nat_eq bounds.old.items b ≡ true) × (b ≤ position)) }
 {
     let mut count = bounds.len();
     while count > 0 && bounds[count - 1] > position {
@@ -79,7 +85,8 @@ fn close(places: &mut Vec<Place>, path: &mut Vec<usize>, from: usize, is_on_cycl
     requires placed { ArePlaced places.old.items path.old.items }
     requires from { from ≤ vec_len path.old }
     ensures path { path.new.items ≡ take from path.old.items }
-    ensures closed { IsClosed from (vec_len path.old) is_on_cycle places.old.items places.new.items }
+    ensures closed { IsClosed from (vec_len path.old) is_on_cycle places.old.items
+        places.new.items }
 {
     for i in from..path.len() {
         places[path[i]] = Place::Done(is_on_cycle);
@@ -89,16 +96,20 @@ fn close(places: &mut Vec<Place>, path: &mut Vec<usize>, from: usize, is_on_cycl
 
 // Whether the last component begins at the position.
 fn is_last(bounds: &[usize], position: usize) -> bool
-    ensures yes { IsTrue result → (0 < length bounds.now) × (get_or bounds.now (length bounds.now - 1) 0 ≡ position) }
-    ensures no { IsFalse result → 0 < length bounds.now → get_or bounds.now (length bounds.now - 1) 0 ≡ position → ⊥ }
+    ensures yes { IsTrue result → (0 < length bounds.now)
+        × (get_or bounds.now (length bounds.now - 1) 0 ≡ position) }
+    ensures no { IsFalse result → 0 < length bounds.now
+        → get_or bounds.now (length bounds.now - 1) 0 ≡ position → ⊥ }
 {
     !bounds.is_empty() && bounds[bounds.len() - 1] == position
 }
 
-// Ends the last call, all of whose links are looked at. Where a component begins there, it is known whole.
+// Ends the last call, all of whose links are looked at. Where a component begins there, it is known
+// whole.
 fn leave(walk: &mut Walk, links: &[Vec<usize>], at: usize)
     requires walked { IsWalkAt links.now walk.old at }
-    requires ended { get_or walk.old.looked.items (get_or walk.old.path.items at 0) 0 ≡ length (linked links.now (get_or walk.old.path.items at 0)) }
+    requires ended { get_or walk.old.looked.items (get_or walk.old.path.items at 0) 0
+        ≡ length (linked links.now (get_or walk.old.path.items at 0)) }
     ensures { IsStep links.now walk.old walk.new }
 {
     if !is_last(walk.bounds.as_slice(), at) {
@@ -114,7 +125,8 @@ fn leave(walk: &mut Walk, links: &[Vec<usize>], at: usize)
 fn follow(walk: &mut Walk, link: usize) -> Result<(), NoMemory>
     requires link { link < vec_len walk.old.places }
     requires rising { IsRising walk.old.bounds.items }
-    ensures { (links : Links) (calls : List ℕ) (at : ℕ) → IsWalk links walk.old → walk.old.calls.items ≡ calls ++ at ∷ []
+    ensures { (links : Links) (calls : List ℕ) (at : ℕ) → IsWalk links walk.old
+        → walk.old.calls.items ≡ calls ++ at ∷ []
         → has nat_eq (linked links (get_or walk.old.path.items at 0)) link ≡ true → OnOk result (IsFollowed links at link walk.old walk.new) }
 {
     match walk.places[link] {
@@ -165,7 +177,8 @@ fn walk_from(walk: &mut Walk, links: &[Vec<usize>], start: usize) -> Result<(), 
 fn walk_all(alloc: Global, links: &[Vec<usize>]) -> Result<Vec<Place>, NoMemory>
     requires { AreLinked links.now }
     ensures size { IfOk result (λ places. vec_len places ≡ length links.now) }
-    ensures done { IfOk result (λ places. (k : ℕ) → k < length links.now → is_done (place_in places.items k) ≡ true) }
+    ensures done { IfOk result (λ places. (k : ℕ) → k < length links.now
+        → is_done (place_in places.items k) ≡ true) }
     ensures told { IfOk result (λ places. AreTold links.now places.items) }
 {
     let mut walk = first_walk(alloc, links)?;
@@ -184,8 +197,8 @@ fn walk_all(alloc: Global, links: &[Vec<usize>]) -> Result<Vec<Place>, NoMemory>
     Ok(places)
 }
 
-/// The least number on a cycle, where `links[k]` are the numbers that `k` links to, in time linear in the links. A number
-/// that links to itself is on one.
+/// The least number on a cycle, where `links[k]` are the numbers that `k` links to, in time linear
+/// in the links. A number that links to itself is on one.
 pub fn first_on_cycle(alloc: Global, links: &[Vec<usize>]) -> Result<Option<usize>, NoMemory>
     requires { AreLinked links.now }
     ensures { IfOk result (IsFirstOnCycle links.now) }

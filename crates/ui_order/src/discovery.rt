@@ -1,6 +1,8 @@
-ghost use Rattle.std.specs.Prelude.{◌≡◌, List, [], ◌∷◌, ◌<◌, ◌↔◌, IfOk, OnOk, IsTrue, Some, None, option_map, map, string_bytes};
+ghost use Rattle.std.specs.Prelude.{◌≡◌, List, [], ◌∷◌, ◌<◌, ◌↔◌, IfOk, OnOk, IsTrue, Some, None};
+ghost use Rattle.std.specs.Prelude.{option_map, map, string_bytes};
 ghost use Rattle.std.specs.FinMap.{get, insert};
-ghost use Rattle.ui_order.specs.Found.{Text, begun, least_unread, found_count, with_imports, with_unread, IsClosed};
+ghost use Rattle.ui_order.specs.Found.{Text, begun, least_unread, found_count, with_imports};
+ghost use Rattle.ui_order.specs.Found.{with_unread, IsClosed};
 ghost use Rattle.ui_order.specs.Tables.{texts, paths_of, graph_of};
 ghost use Rattle.ui_order.specs.Order.{arranged};
 ghost use Rattle.ui_order.specs.Shown.{shown};
@@ -14,8 +16,8 @@ use ui_base::NoMemory;
 /// How many paths a build may find.
 pub const PACKAGE_LIMIT: usize = 1024;
 
-/// The paths that are found from a root along imports. Contracts see those not read yet, and those read with their
-/// imports, both ascending by bytes.
+/// The paths that are found from a root along imports. Contracts see those not read yet, and those
+/// read with their imports, both ascending by bytes.
 #[derive(Drop)]
 pub struct Discovery {
     unread: BTreeSet<String>,
@@ -30,7 +32,10 @@ impl Model for Discovery {
 
     ghost coded = { found_code };
 
-    ghost view = { λ d. record { unread = paths_of d.unread.keys; read = graph_of d.read.entries } };
+    ghost view = { λ d. record {
+      unread = paths_of d.unread.keys;
+      read = graph_of d.read.entries;
+    } };
 }
 
 impl Discovery {
@@ -56,10 +61,12 @@ impl Discovery {
         }
     }
 
-    /// The path was read and has these imports, which are found now. Without memory some of them may be found and the
-    /// path may be neither read nor unread: such a discovery is of no more use.
+    /// The path was read and has these imports, which are found now. Without memory some of them
+    /// may be found and the path may be neither read nor unread: such a discovery is of no more
+    /// use.
     pub fn add(&mut self, alloc: Global, path: String, imports: Vec<String>) -> Result<(), NoMemory>
-        ensures { OnOk result (self.new ≡ with_imports self.old (string_bytes path) (texts imports)) }
+        ensures { OnOk result (self.new ≡ with_imports self.old (string_bytes path)
+            (texts imports)) }
     {
         self.unread.remove(path.as_str());
         find_imports(
@@ -88,7 +95,8 @@ impl Discovery {
 
     /// The direct imports of a path that was read.
     pub fn imports(&self, path: &str) -> Option<&[String]>
-        ensures { option_map (λ imports. map string_bytes imports.now) result ≡ get self.now.read path.now }
+        ensures { option_map (λ imports. map string_bytes imports.now) result
+            ≡ get self.now.read path.now }
     {
         match self.read.get(path) {
             Some(imports) => Some(imports.as_slice()),
@@ -96,8 +104,8 @@ impl Discovery {
         }
     }
 
-    /// The least path on a cycle of imports, or else the build order: repeatedly the least path whose imports are all
-    /// taken. Each import has to be a path that was read.
+    /// The least path on a cycle of imports, or else the build order: repeatedly the least path
+    /// whose imports are all taken. Each import has to be a path that was read.
     pub fn order(&self, alloc: Global) -> Result<Order, NoMemory>
         requires { IsClosed self.now.read }
         ensures { IfOk result (λ order. shown order ≡ arranged self.now.read) }
@@ -113,7 +121,9 @@ fn find_import(
     path: &str,
     import: &String,
 ) -> Result<(), NoMemory>
-    ensures { (own : List Text) → OnOk result (paths_of unread.new.keys ≡ with_unread (insert (graph_of read.now.entries) path.now own) (paths_of unread.old.keys) (string_bytes import.now ∷ [])) }
+    ensures { (own : List Text) → OnOk result (paths_of unread.new.keys
+        ≡ with_unread (insert (graph_of read.now.entries) path.now own) (paths_of unread.old.keys)
+        (string_bytes import.now ∷ [])) }
 {
     if import.as_str() == path || read.contains_key(import.as_str()) {
         return Ok(());
@@ -129,7 +139,9 @@ fn find_imports(
     path: &str,
     imports: &[String],
 ) -> Result<(), NoMemory>
-    ensures { (own : List Text) → OnOk result (paths_of unread.new.keys ≡ with_unread (insert (graph_of read.now.entries) path.now own) (paths_of unread.old.keys) (map string_bytes imports.now)) }
+    ensures { (own : List Text) → OnOk result (paths_of unread.new.keys
+        ≡ with_unread (insert (graph_of read.now.entries) path.now own) (paths_of unread.old.keys)
+        (map string_bytes imports.now)) }
 {
     for import in imports {
         find_import(unread, read, path, import)?;

@@ -1,5 +1,6 @@
-//! Which packages a build needs and in which order: discovery along imports, cycles, and the build order. It knows
-//! paths alone, and no store or source. The order and the cycles are also there for plain numbers with links.
+//! Which packages a build needs and in which order: discovery along imports, cycles, and the build
+//! order. It knows paths alone, and no store or source. The order and the cycles are also there for
+//! plain numbers with links.
 #![tactic(auto)]
 
 mod cycle;

@@ -1,11 +1,13 @@
-// The order of numbers: repeatedly the least one whose links are all taken. Each number that isn't ready waits for one
-// link, so every link is looked at once.
-ghost use Rattle.std.specs.Prelude.{◌≡◌, ◌<◌, ◌≤◌, ℕ, List, [], ◌∷◌, length, get_or, true, false, IfOk, OnOk, None, MatchOption, nat_eq, vec_len};
+// The order of numbers: repeatedly the least one whose links are all taken. Each number that isn't
+// ready waits for one link, so every link is looked at once.
+ghost use Rattle.std.specs.Prelude.{◌≡◌, ◌<◌, ◌≤◌, ℕ, List, [], ◌∷◌, length, get_or, true, false};
+ghost use Rattle.std.specs.Prelude.{IfOk, OnOk, None, MatchOption, nat_eq, vec_len};
 ghost use Rattle.std.specs.Ordering.{nat_cmp};
 ghost use Rattle.std.specs.BTreeSet.{contains};
 ghost use Rattle.std.specs.List.{range_with_len};
 ghost use Rattle.ui_order.specs.Steps.{has};
-ghost use Rattle.ui_order.specs.Numbers.{Links, linked, AreLinked, number_order, next_number, IsSized, IsPlan, IsNumberOrder, IsTurn};
+ghost use Rattle.ui_order.specs.Numbers.{Links, linked, AreLinked, number_order, next_number};
+ghost use Rattle.ui_order.specs.Numbers.{IsSized, IsPlan, IsNumberOrder, IsTurn};
 
 use std::alloc::Global;
 use std::collections::BTreeSet;
@@ -28,8 +30,10 @@ fn first_untaken(links: &[usize], from: usize, taken: &[bool]) -> usize
     requires from { from ≤ length links.now }
     requires links { (j : ℕ) → has nat_eq links.now j ≡ true → j < length taken.now }
     ensures within { result ≤ length links.now }
-    ensures passed { (i : ℕ) → from ≤ i → i < result → get_or taken.now (get_or links.now i 0) false ≡ true }
-    ensures found { result < length links.now → get_or taken.now (get_or links.now result 0) false ≡ false }
+    ensures passed { (i : ℕ) → from ≤ i → i < result
+        → get_or taken.now (get_or links.now i 0) false ≡ true }
+    ensures found { result < length links.now
+        → get_or taken.now (get_or links.now result 0) false ≡ false }
 {
     for i in from..links.len() {
         if !taken[links[i]] {
@@ -45,7 +49,8 @@ fn wait(plan: &mut Plan, links: &[Vec<usize>], k: usize) -> Result<(), NoMemory>
     requires links { AreLinked links.now }
     requires sized { IsSized links.now plan.old }
     ensures sized { OnOk result (IsSized links.now plan.new) }
-    ensures looked_at { (order left : List ℕ) → IsPlan links.now order (k ∷ left) plan.old → OnOk result (IsPlan links.now order left plan.new) }
+    ensures looked_at { (order left : List ℕ) → IsPlan links.now order (k ∷ left) plan.old
+        → OnOk result (IsPlan links.now order left plan.new) }
 {
     let own = links[k].as_slice();
     let i = first_untaken(own, plan.at[k], plan.taken.as_slice());
@@ -107,7 +112,8 @@ fn look_at(plan: &mut Plan, links: &[Vec<usize>], numbers: &[usize]) -> Result<(
     requires links { AreLinked links.now }
     requires sized { IsSized links.now plan.old }
     ensures sized { OnOk result (IsSized links.now plan.new) }
-    ensures planned { (order : List ℕ) → IsPlan links.now order numbers.now plan.old → OnOk result (IsPlan links.now order [] plan.new) }
+    ensures planned { (order : List ℕ) → IsPlan links.now order numbers.now plan.old
+        → OnOk result (IsPlan links.now order [] plan.new) }
 {
     for k in numbers {
         wait(plan, links, *k)?;
@@ -117,8 +123,10 @@ fn look_at(plan: &mut Plan, links: &[Vec<usize>], numbers: &[usize]) -> Result<(
 
 // Takes the least ready number. It gives the numbers that waited for it.
 fn take_least(alloc: Global, plan: &mut Plan) -> Option<(usize, Vec<usize>)>
-    requires { (k : ℕ) → contains nat_cmp plan.old.ready k ≡ true → (k < vec_len plan.old.taken) × (k < vec_len plan.old.waiting) }
-    ensures { (links : Links) (order : List ℕ) → IsSized links plan.old → IsNumberOrder links order → IsPlan links order [] plan.old
+    requires { (k : ℕ) → contains nat_cmp plan.old.ready k ≡ true → (k < vec_len plan.old.taken)
+        × (k < vec_len plan.old.waiting) }
+    ensures { (links : Links) (order : List ℕ) → IsSized links plan.old → IsNumberOrder links order
+        → IsPlan links order [] plan.old
         → MatchOption result ((next_number links order ≡ None) × (plan.new.taken ≡ plan.old.taken)) (IsTurn links order plan.new) }
 {
     let i = match plan.ready.pop_first() {
@@ -130,9 +138,10 @@ fn take_least(alloc: Global, plan: &mut Plan) -> Option<(usize, Vec<usize>)>
     Some((i, woken))
 }
 
-/// The order of the numbers from 0 to below the number of lists, where `links[k]` are the numbers that `k` links to:
-/// repeatedly the least one whose links are all taken. Numbers on a cycle and those that lead to one are left out. Its
-/// time is linear in the links, but for the search tree of the ready numbers.
+/// The order of the numbers from 0 to below the number of lists, where `links[k]` are the numbers
+/// that `k` links to: repeatedly the least one whose links are all taken. Numbers on a cycle and
+/// those that lead to one are left out. Its time is linear in the links, but for the search tree of
+/// the ready numbers.
 pub fn in_order(alloc: Global, links: &[Vec<usize>]) -> Result<Vec<usize>, NoMemory>
     requires { AreLinked links.now }
     ensures { IfOk result (λ order. order.items ≡ number_order links.now) }

@@ -92,7 +92,8 @@ fn marked(token: &Token, kind: TokenKind) -> Option<Spot>
 }
 
 fn first_marked(tokens: &[Token], kind: TokenKind) -> Option<Spot>
-    ensures { (bytes : List ℕ) → result ≡ reader.first (reader.marked kind) (word.words bytes tokens.now) }
+    ensures { (bytes : List ℕ) → result ≡ reader.first (reader.marked kind)
+        (word.words bytes tokens.now) }
 {
     match tokens {
         [] => None,
@@ -161,8 +162,10 @@ fn first_kind(tokens: &[Token]) -> Option<TokenKind>
 }
 
 fn tail(tokens: &[Token]) -> &[Token]
-    ensures words { (bytes : List ℕ) → word.words bytes result.now ≡ reader.tail (word.words bytes tokens.now) }
-    ensures kept { (bytes : List ℕ) → AllByRecursion (spec.IsReadable bytes) tokens.now → AllByRecursion (spec.IsReadable bytes) result.now }
+    ensures words { (bytes : List ℕ) → word.words bytes result.now
+        ≡ reader.tail (word.words bytes tokens.now) }
+    ensures kept { (bytes : List ℕ) → AllByRecursion (spec.IsReadable bytes) tokens.now
+        → AllByRecursion (spec.IsReadable bytes) result.now }
 {
     match tokens {
         [] => tokens,
@@ -226,7 +229,8 @@ impl<'a> Cursor<'a> {
         }
     }
 
-    /// A second cursor, over the first words alone that are left: so many, or all where there are fewer.
+    /// A second cursor, over the first words alone that are left: so many, or all where there are
+    /// fewer.
     #[tactic(auto, using(crate::proofs::Readable::take_words))]
     pub fn front(&self, count: usize) -> Cursor<'a>
         ensures { result ≡ take count self.now }

@@ -35,7 +35,8 @@ fn behind_turn<S: Ends + Drop>(
     close: TokenKind,
     state: S,
 ) -> Result<Turn<S>, ParseError>
-    ensures { Reads (λ t. t) (spec.behind_turn S.ending separator close state cursor.old) result cursor.new }
+    ensures { Reads (λ t. t) (spec.behind_turn S.ending separator close state cursor.old) result
+        cursor.new }
 {
     if state.must_end() {
         cursor.take(separator);
@@ -56,7 +57,8 @@ fn part<S: Ends + Drop, F: Fn(&mut Cursor<'_>, S) -> Result<S, ParseError>>(
     step: &F,
 ) -> Result<Turn<S>, ParseError>
     requires { F.IsAlwaysCallable step.now }
-    ensures { spec.PartRan separator close S.ending (spec.Called (F.post step.now)) state cursor.old result cursor.new }
+    ensures { spec.PartRan separator close S.ending (spec.Called (F.post step.now)) state cursor.old
+        result cursor.new }
 {
     match step(cursor, state) {
         Ok(state) => behind_turn(cursor, separator, close, state),
@@ -74,7 +76,8 @@ fn turn<S: Ends + Drop, F: Fn(&mut Cursor<'_>, S) -> Result<S, ParseError>>(
     step: &F,
 ) -> Result<Turn<S>, ParseError>
     requires { F.IsAlwaysCallable step.now }
-    ensures { spec.TurnRan separator close S.ending (spec.Called (F.post step.now)) state cursor.old result cursor.new }
+    ensures { spec.TurnRan separator close S.ending (spec.Called (F.post step.now)) state cursor.old
+        result cursor.new }
 {
     if !state.may_end() {
         return part(cursor, separator, close, state, step);
@@ -94,7 +97,8 @@ pub fn parts<S: Ends + Drop, F: Fn(&mut Cursor<'_>, S) -> Result<S, ParseError>>
     step: &F,
 ) -> Result<S, ParseError>
     requires { F.IsAlwaysCallable step.now }
-    ensures { spec.PartsRan separator close S.ending (spec.Called (F.post step.now)) (suc (length cursor.old)) state cursor.old result cursor.new }
+    ensures { spec.PartsRan separator close S.ending (spec.Called (F.post step.now))
+        (suc (length cursor.old)) state cursor.old result cursor.new }
 {
     let mut state = state;
     // Each turn but the first takes a word.
@@ -121,7 +125,8 @@ pub fn more_parts<S: Ends + Drop, F: Fn(&mut Cursor<'_>, S) -> Result<S, ParseEr
     step: &F,
 ) -> Result<S, ParseError>
     requires { F.IsAlwaysCallable step.now }
-    ensures { spec.MoreRan separator close S.ending (spec.Called (F.post step.now)) state cursor.old result cursor.new }
+    ensures { spec.MoreRan separator close S.ending (spec.Called (F.post step.now)) state cursor.old
+        result cursor.new }
 {
     match behind_turn(cursor, separator, close, state) {
         Ok(Turn::Done(last)) => Ok(last),
@@ -138,7 +143,8 @@ pub fn chain<S: Drop, F: Fn(&mut Cursor<'_>, S) -> Result<S, ParseError>>(
     step: &F,
 ) -> Result<S, ParseError>
     requires { F.IsAlwaysCallable step.now }
-    ensures { spec.ChainRan separator (spec.Called (F.post step.now)) (suc (length cursor.old)) state cursor.old result cursor.new }
+    ensures { spec.ChainRan separator (spec.Called (F.post step.now))
+        (suc (length cursor.old)) state cursor.old result cursor.new }
 {
     let mut state = state;
     // Each turn takes a word.

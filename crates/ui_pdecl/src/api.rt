@@ -42,7 +42,8 @@ fn with_paths(
     own: &Text,
     body: FileBody,
 ) -> Result<FileTree, ParseFault>
-    ensures parsed { IsResult (spec.with_paths tokens.now (see_file body) (spec.bad_import own.now (map import_view body.imports))) result }
+    ensures parsed { IsResult (spec.with_paths tokens.now (see_file body)
+        (spec.bad_import own.now (map import_view body.imports))) result }
     ensures name { IfOk result (λ t. t.file ≡ file.now) }
 {
     if let Some(spot) = bad_import(own, body.imports.as_slice()) {
@@ -61,14 +62,15 @@ fn with_paths(
     })
 }
 
-/// The tree of a file of this name in the store, whose tokens these are, in the package of the path `own`.
+/// The tree of a file of this name in the store, whose tokens these are, in the package of the path
+/// `own`.
 ///
 /// # Errors
 ///
-/// Where the tokens are no file, the fault stands at the word behind the longest list of words with which a file begins:
-/// `TooDeep` where a file that is deeper than 200 begins with that word too, else `Outside` where the word begins a form
-/// of Go without trees, else `Unexpected`. In a file, `BadImportPath` at the string of the first import whose path is no
-/// package's, or is `own`.
+/// Where the tokens are no file, the fault stands at the word behind the longest list of words with
+/// which a file begins: `TooDeep` where a file that is deeper than 200 begins with that word too,
+/// else `Outside` where the word begins a form of Go without trees, else `Unexpected`. In a file,
+/// `BadImportPath` at the string of the first import whose path is no package's, or is `own`.
 pub fn parse_file(
     alloc: Global,
     bytes: &[u8],

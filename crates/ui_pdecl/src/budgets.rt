@@ -41,7 +41,8 @@ pub(crate) fn constants(
     spot: Spot,
 ) -> Result<Deep<CommonTree>, ParseError>
     requires { room < 4294967295 }
-    ensures { Reads (see_deep common_view) (common.constant_decl (suc room) spot words.old) result words.new }
+    ensures { Reads (see_deep common_view) (common.constant_decl (suc room) spot words.old) result
+        words.new }
 {
     constant_decl(alloc, words, room + 1, spot)
 }
@@ -55,7 +56,8 @@ pub(crate) fn variables(
     spot: Spot,
 ) -> Result<Deep<CommonTree>, ParseError>
     requires { room < 4294967295 }
-    ensures { Reads (see_deep common_view) (common.variable_decl (suc room) spot words.old) result words.new }
+    ensures { Reads (see_deep common_view) (common.variable_decl (suc room) spot words.old) result
+        words.new }
 {
     variable_decl(alloc, words, room + 1, spot)
 }

@@ -55,7 +55,8 @@ fn maybe_type_or_func(
     room: u32,
 ) -> Result<Option<Deep<DeclTree>>, ParseError>
     requires { room < 4294967295 }
-    ensures { Reads (option_map (see_deep decl_view)) (parts.type_or_func room words.old) result words.new }
+    ensures { Reads (option_map (see_deep decl_view)) (parts.type_or_func room words.old) result
+        words.new }
 {
     if let Some(spot) = words.take(TokenKind::Type) {
         return Ok(Some(types(alloc, words, room, spot)?));
@@ -73,7 +74,8 @@ fn maybe_decl(
     room: u32,
 ) -> Result<Option<Deep<DeclTree>>, ParseError>
     requires { room < 4294967295 }
-    ensures { Reads (option_map (see_deep decl_view)) (spec.maybe_decl room words.old) result words.new }
+    ensures { Reads (option_map (see_deep decl_view)) (spec.maybe_decl room words.old) result
+        words.new }
 {
     if let Some(spot) = words.take(TokenKind::Const) {
         return Ok(Some(common_of(constants(alloc, words, room, spot)?)));

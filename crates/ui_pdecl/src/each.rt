@@ -34,7 +34,8 @@ pub(crate) fn each<T: Drop, R: PartReader<T>>(
     words: &mut Cursor<'_>,
     reader: &R,
 ) -> Result<Items<T>, ParseError>
-    ensures { (room : ℕ) → Reads (map R.see) (spec.each room (R.reader reader.now) words.old) result words.new }
+    ensures { (room : ℕ) → Reads (map R.see) (spec.each room (R.reader reader.now) words.old) result
+        words.new }
 {
     let mut all = Items::new(alloc);
     // Each turn takes a word.

@@ -20,7 +20,8 @@ use ui_pexpr::{
 };
 use ui_scan::{Token, TokenKind};
 
-// Whether a specification begins behind these tokens: right behind this keyword, or in its parentheses.
+// Whether a specification begins behind these tokens: right behind this keyword, or in its
+// parentheses.
 fn begins_spec(front: &[Token], keyword: TokenKind) -> bool
     ensures { (bytes : List ℕ) → result ≡ spec.begins_spec keyword (back_of bytes front.now) }
 {
@@ -58,7 +59,8 @@ fn are_params(alloc: Global, words: &mut Cursor<'_>) -> Result<bool, NoMemory>
 // Whether it ends with the parameters of a type specification, and their bracket.
 fn ends_in_params(alloc: Global, front: &Front<'_>) -> Result<bool, NoMemory>
     requires scanned { Tokens front.now.bytes.now front.now.tokens.now }
-    ensures { let ws = front_of front.now.bytes.now front.now.tokens.now front.now.from front.now.count in IfOk result (λ b. b ≡ spec.behind_params ws (reverse ws)) }
+    ensures { let ws = front_of front.now.bytes.now front.now.tokens.now front.now.from
+        front.now.count in IfOk result (λ b. b ≡ spec.behind_params ws (reverse ws)) }
 {
     let tokens = front.tokens();
     if !ends_in(tokens, TokenKind::RBracket) {
@@ -73,7 +75,8 @@ fn ends_in_params(alloc: Global, front: &Front<'_>) -> Result<bool, NoMemory>
 
 fn file_form(alloc: Global, front: &Front<'_>, kind: TokenKind) -> Result<Option<Form>, NoMemory>
     requires scanned { Tokens front.now.bytes.now front.now.tokens.now }
-    ensures { let ws = front_of front.now.bytes.now front.now.tokens.now front.now.from front.now.count in IfOk result (λ f. f ≡ spec.file_form ws (reverse ws) kind) }
+    ensures { let ws = front_of front.now.bytes.now front.now.tokens.now front.now.from
+        front.now.count in IfOk result (λ f. f ≡ spec.file_form ws (reverse ws) kind) }
 {
     match kind {
         TokenKind::Period => {
@@ -85,10 +88,12 @@ fn file_form(alloc: Global, front: &Front<'_>, kind: TokenKind) -> Result<Option
     }
 }
 
-// The form without trees that a token of this kind begins behind it, where no file goes on with the token.
+// The form without trees that a token of this kind begins behind it, where no file goes on with the
+// token.
 fn form_by_kind(alloc: Global, front: &Front<'_>, kind: TokenKind) -> Result<Option<Form>, NoMemory>
     requires scanned { Tokens front.now.bytes.now front.now.tokens.now }
-    ensures { IfOk result (λ f. f ≡ spec.form_by_kind (front_of front.now.bytes.now front.now.tokens.now front.now.from front.now.count) kind) }
+    ensures { IfOk result (λ f. f ≡ spec.form_by_kind
+        (front_of front.now.bytes.now front.now.tokens.now front.now.from front.now.count) kind) }
 {
     match front.form_by_kind(alloc, kind)? {
         Some(form) => Ok(Some(form)),
@@ -101,7 +106,8 @@ fn form_by_kind(alloc: Global, front: &Front<'_>, kind: TokenKind) -> Result<Opt
 fn reads_farther(alloc: Global, front: &Front<'_>) -> Result<bool, NoMemory>
     requires scanned { Tokens front.now.bytes.now front.now.tokens.now }
     requires room { front.now.count < 2 ^ 28 }
-    ensures { IfOk result (λ b. b ≡ results.reads_farther (drop front.now.from (words front.now.bytes.now front.now.tokens.now)) front.now.count) }
+    ensures { IfOk result (λ b. b ≡ results.reads_farther
+        (drop front.now.from (words front.now.bytes.now front.now.tokens.now)) front.now.count) }
 {
     let count = front.count + 1;
     let mut words = Cursor::at(front.bytes, front.tokens, front.from).front(count);
@@ -122,7 +128,9 @@ fn fault_at(
 ) -> Result<ParseFault, NoMemory>
     requires scanned { Tokens front.now.bytes.now front.now.tokens.now }
     requires room { front.now.count < 2 ^ 28 }
-    ensures { IfOk result (λ f. f ≡ results.told_at (drop front.now.from (words front.now.bytes.now front.now.tokens.now)) front.now.count kind at) }
+    ensures { IfOk result (λ f. f ≡ results.told_at
+        (drop front.now.from (words front.now.bytes.now front.now.tokens.now)) front.now.count kind
+        at) }
 {
     let Some(kind) = kind else {
         return Ok(ParseFault::Unexpected { at });

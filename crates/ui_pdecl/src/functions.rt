@@ -1,10 +1,12 @@
-//! Functions and methods, behind the keyword. Go specification, "Function declarations" and "Method declarations".
+//! Functions and methods, behind the keyword. Go specification, "Function declarations" and "Method
+//! declarations".
 
 ghost use Rattle.std.specs.Prelude.{◌≡◌, ◌<◌, max};
 ghost use Rattle.ui_parse.specs.View.{Reads};
 ghost use Rattle.ui_ptype.specs.Seen.{results_tree, results_depth};
 ghost use Rattle.ui_tree.specs.Stmt.{method_decl, func_decl};
-ghost use Rattle.ui_tree.specs.StmtView.{decl_view, receiver_view, maybe_groups, maybe_type_view, groups_view};
+ghost use Rattle.ui_tree.specs.StmtView.{decl_view, receiver_view, maybe_groups, maybe_type_view};
+ghost use Rattle.ui_tree.specs.StmtView.{groups_view};
 ghost use Rattle.std.specs.Option.{option_map};
 ghost use Rattle.ui_tree.specs.View.{type_view, maybe_type};
 ghost use Rattle.ui_stmts.specs.Common.{sized};
@@ -81,7 +83,8 @@ fn method_named(
     name: Placed,
 ) -> Result<Deep<DeclTree>, ParseError>
     requires { room < 4294967295 }
-    ensures { Reads (see_deep decl_view) (method_named room spot (receiver_view receiver) name words.old) result words.new }
+    ensures { Reads (see_deep decl_view) (method_named room spot
+        (receiver_view receiver) name words.old) result words.new }
 {
     match signature(alloc, words, room) {
         Ok(sig) => match body(alloc, words, room) {
@@ -99,7 +102,9 @@ fn method_of(
     sig: Signature,
     body: BlockSub,
 ) -> Deep<DeclTree>
-    ensures { see_deep decl_view result ≡ sized (method_decl spot (receiver_view receiver) name (groups_view sig.of.params) (maybe_type_view sig.of.results) (see_block body).of) (max sig.depth body.depth) }
+    ensures { see_deep decl_view result ≡ sized
+        (method_decl spot (receiver_view receiver) name (groups_view sig.of.params)
+        (maybe_type_view sig.of.results) (see_block body).of) (max sig.depth body.depth) }
 {
     Deep {
         of: DeclTree::Method {
@@ -120,7 +125,10 @@ fn func_of(
     sig: Signature,
     body: BlockSub,
 ) -> Deep<DeclTree>
-    ensures { see_deep decl_view result ≡ sized (func_decl spot name (maybe_groups params.of) (groups_view sig.of.params) (maybe_type_view sig.of.results) (see_block body).of) (max params.depth (max sig.depth body.depth)) }
+    ensures { see_deep decl_view result ≡ sized
+        (func_decl spot name (maybe_groups params.of) (groups_view sig.of.params)
+        (maybe_type_view sig.of.results) (see_block body).of)
+        (max params.depth (max sig.depth body.depth)) }
 {
     let depth = params.depth.max(sig.depth.max(body.depth));
     Deep {
@@ -143,7 +151,8 @@ fn method(
     receiver: Receiver,
 ) -> Result<Deep<DeclTree>, ParseError>
     requires { room < 4294967295 }
-    ensures { Reads (see_deep decl_view) (spec.method_behind room spot (receiver_view receiver) words.old) result words.new }
+    ensures { Reads (see_deep decl_view) (spec.method_behind room spot
+        (receiver_view receiver) words.old) result words.new }
 {
     match words.expect_name(alloc) {
         Ok(name) => method_named(alloc, words, room, spot, receiver, name),
@@ -160,7 +169,8 @@ fn func(
     params: MaybeParams,
 ) -> Result<Deep<DeclTree>, ParseError>
     requires { room < 4294967295 }
-    ensures { Reads (see_deep decl_view) (spec.func_behind room spot name (maybe_groups params.of) params.depth words.old) result words.new }
+    ensures { Reads (see_deep decl_view) (spec.func_behind room spot name
+        (maybe_groups params.of) params.depth words.old) result words.new }
 {
     match signature(alloc, words, room) {
         Ok(sig) => match body(alloc, words, room) {

@@ -1,4 +1,5 @@
-//! Type parameters whose text is an array's length too. Go specification, "Type parameter declarations".
+//! Type parameters whose text is an array's length too. Go specification, "Type parameter
+//! declarations".
 
 ghost use Rattle.std.specs.Prelude.{◌≡◌, map};
 ghost use Rattle.ui_tree.specs.View.{type_view, types};

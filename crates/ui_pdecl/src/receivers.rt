@@ -21,7 +21,8 @@ fn receiver_close(
     of: Placed,
     params: Option<Items<Placed>>,
 ) -> Result<Receiver, ParseError>
-    ensures { Reads receiver_view (receiver_close 0 spot name pointer of params words.old) result words.new }
+    ensures { Reads receiver_view (receiver_close 0 spot name pointer of params words.old) result
+        words.new }
 {
     match words.expect(TokenKind::RParen) {
         Ok(_) => Ok(Receiver {
@@ -44,7 +45,8 @@ fn receiver_params(
     of: Placed,
     params: Items<Placed>,
 ) -> Result<Receiver, ParseError>
-    ensures { Reads receiver_view (receiver_params 0 spot name pointer of params words.old) result words.new }
+    ensures { Reads receiver_view (receiver_params 0 spot name pointer of params words.old) result
+        words.new }
 {
     match words.expect(TokenKind::RBracket) {
         Ok(_) => receiver_close(words, spot, name, pointer, of, Some(params)),
@@ -62,7 +64,8 @@ fn receiver_end(
     pointer: bool,
     of: Placed,
 ) -> Result<Receiver, ParseError>
-    ensures { Reads receiver_view (spec.recv_end 0 spot name pointer of words.old) result words.new }
+    ensures { Reads receiver_view (spec.recv_end 0 spot name pointer of words.old) result
+        words.new }
 {
     match words.take(TokenKind::LBracket) {
         Some(_) => match names(alloc, words) {

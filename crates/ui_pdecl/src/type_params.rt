@@ -48,7 +48,8 @@ fn bounded(
     depth: u32,
     bound: TypeSub,
 ) -> Result<TypeParams, NoMemory>
-    ensures { IfOk result (λ ps. see_type_params ps ≡ with_bound (groups_seen groups) names depth (see_type bound)) }
+    ensures { IfOk result (λ ps. see_type_params ps ≡ with_bound (groups_seen groups) names depth
+        (see_type bound)) }
 {
     let mut groups = groups;
     let group = Group {
@@ -83,7 +84,8 @@ impl TypeParams {
         name: Placed,
         bound: Option<TypeSub>,
     ) -> Result<TypeParams, NoMemory>
-        ensures { IfOk result (λ ps. see_type_params ps ≡ spec.add_bound (see_type_params self) name (see_maybe bound)) }
+        ensures { IfOk result (λ ps. see_type_params ps ≡ spec.add_bound (see_type_params self) name
+            (see_maybe bound)) }
     {
         let TypeParams {
             groups,
@@ -132,7 +134,8 @@ fn param_named(
     params: TypeParams,
     name: Placed,
 ) -> Result<TypeParams, ParseError>
-    ensures { Reads see_type_params (param_named room (see_type_params params) name words.old) result words.new }
+    ensures { Reads see_type_params (param_named room (see_type_params params) name words.old)
+        result words.new }
 {
     match maybe_bound(alloc, words, room) {
         Ok(bound) => Ok(params.add(alloc, name, bound)?),
@@ -146,7 +149,8 @@ fn type_param(
     room: u32,
     params: TypeParams,
 ) -> Result<TypeParams, ParseError>
-    ensures { Reads see_type_params (spec.type_param room (see_type_params params) words.old) result words.new }
+    ensures { Reads see_type_params (spec.type_param room (see_type_params params) words.old) result
+        words.new }
 {
     match words.expect_name(alloc) {
         Ok(name) => param_named(alloc, words, room, params, name),
@@ -155,7 +159,8 @@ fn type_param(
 }
 
 fn first_param(alloc: Global, words: &mut Cursor<'_>, room: u32) -> Result<TypeParams, ParseError>
-    ensures { Reads see_type_params (spec.type_param room spec.no_type_params words.old) result words.new }
+    ensures { Reads see_type_params (spec.type_param room spec.no_type_params words.old) result
+        words.new }
 {
     type_param(alloc, words, room, TypeParams::new(alloc))
 }
@@ -167,7 +172,8 @@ fn more_params(
     room: u32,
     params: TypeParams,
 ) -> Result<TypeParams, ParseError>
-    ensures { Reads see_type_params (reader.more_parts Comma RBracket spec.type_params_ending (spec.type_param room) (see_type_params params) words.old) result words.new }
+    ensures { Reads see_type_params (reader.more_parts Comma RBracket spec.type_params_ending
+        (spec.type_param room) (see_type_params params) words.old) result words.new }
 {
     more_parts(
         words,
@@ -185,7 +191,8 @@ fn params_behind(
     room: u32,
     params: TypeParams,
 ) -> Result<TypeParams, ParseError>
-    ensures { Reads see_type_params (reader.parts Comma RBracket spec.type_params_ending (spec.type_param room) (see_type_params params) words.old) result words.new }
+    ensures { Reads see_type_params (reader.parts Comma RBracket spec.type_params_ending
+        (spec.type_param room) (see_type_params params) words.old) result words.new }
 {
     parts(
         words,
@@ -216,7 +223,8 @@ fn apart(
     room: u32,
     params: TypeParams,
 ) -> Result<TypeParams, ParseError>
-    ensures { Reads see_type_params (spec.apart room (see_type_params params) words.old) result words.new }
+    ensures { Reads see_type_params (spec.apart room (see_type_params params) words.old) result
+        words.new }
 {
     if !is_length(params.groups.as_slice()) {
         return more_params(alloc, words, room, params);

@@ -39,7 +39,8 @@ fn spec_sub(alloc: Global, spec: TypeSpec, depth: u32) -> Result<SpecSub, NoMemo
 
 // A type without parameters.
 fn spec_of(alloc: Global, name: Placed, alias: bool, of: TypeSub) -> Result<SpecSub, NoMemory>
-    ensures { IfOk result (λ s. see_deep type_spec_view s ≡ sized (spec.type_group 0 name groups_end alias (see_type of).tree) of.depth) }
+    ensures { IfOk result (λ s. see_deep type_spec_view s
+        ≡ sized (spec.type_group 0 name groups_end alias (see_type of).tree) of.depth) }
 {
     let depth = of.depth;
     let spec = TypeSpec {
@@ -59,7 +60,8 @@ fn plain_spec(
     alias: bool,
 ) -> Result<SpecSub, ParseError>
     requires { room < 4294967295 }
-    ensures { Reads (see_deep type_spec_view) (spec.plain_group room name alias words.old) result words.new }
+    ensures { Reads (see_deep type_spec_view) (spec.plain_group room name alias words.old) result
+        words.new }
 {
     match own_type(alloc, words, room) {
         Ok(of) => Ok(spec_of(alloc, name, alias, of)?),
@@ -75,7 +77,8 @@ fn bracketed_spec(
     name: Placed,
     spot: Spot,
 ) -> Result<SpecSub, ParseError>
-    ensures { Reads (see_deep type_spec_view) (spec.bracketed_group room name spot words.old) result words.new }
+    ensures { Reads (see_deep type_spec_view) (spec.bracketed_group room name spot words.old) result
+        words.new }
 {
     match bracket_type(alloc, words, room, TypeSite::Plain, spot) {
         Ok(of) => Ok(spec_of(alloc, name, false, of)?),
@@ -90,7 +93,9 @@ fn generic_of(
     params: TypeParams,
     of: TypeSub,
 ) -> Result<SpecSub, NoMemory>
-    ensures { IfOk result (λ s. see_deep type_spec_view s ≡ sized (spec.type_group 0 name (groups_view params.groups) false (see_type of).tree) (max params.depth of.depth)) }
+    ensures { IfOk result (λ s. see_deep type_spec_view s
+        ≡ sized (spec.type_group 0 name (groups_view params.groups) false (see_type of).tree)
+        (max params.depth of.depth)) }
 {
     let depth = params.depth.max(of.depth);
     let spec = TypeSpec {
@@ -110,7 +115,8 @@ fn generic_spec(
     name: Placed,
 ) -> Result<SpecSub, ParseError>
     requires { room < 4294967295 }
-    ensures { Reads (see_deep type_spec_view) (spec.generic_group room name words.old) result words.new }
+    ensures { Reads (see_deep type_spec_view) (spec.generic_group room name words.old) result
+        words.new }
 {
     match type_params_apart(alloc, words, room) {
         Ok(params) => match own_type(alloc, words, room) {
@@ -121,14 +127,17 @@ fn generic_spec(
     }
 }
 
-// What went farther of two readings, the second of which left the other words; the first where both went as far.
+// What went farther of two readings, the second of which left the other words; the first where both
+// went as far.
 fn farther<'a>(
     words: &mut Cursor<'a>,
     other: Cursor<'a>,
     first: Result<SpecSub, ParseError>,
     second: Result<SpecSub, ParseError>,
 ) -> Result<SpecSub, ParseError>
-    ensures { (a b : Outcome (Sized TypeGroup)) → Reads (see_deep type_spec_view) a first words.old → Reads (see_deep type_spec_view) b second other.entry → Reads (see_deep type_spec_view) (farther_of a b) result words.new }
+    ensures { (a b : Outcome (Sized TypeGroup)) → Reads (see_deep type_spec_view) a first words.old
+        → Reads (see_deep type_spec_view) b second other.entry
+        → Reads (see_deep type_spec_view) (farther_of a b) result words.new }
 {
     if matches!(first, Err(ParseError::NoMemory)) || matches!(second, Err(ParseError::NoMemory)) {
         return Err(ParseError::NoMemory);
@@ -162,7 +171,8 @@ fn length_or_params(
     spot: Spot,
 ) -> Result<SpecSub, ParseError>
     requires { room < 4294967295 }
-    ensures { Reads (see_deep type_spec_view) (bracketed room name spot words.old) result words.new }
+    ensures { Reads (see_deep type_spec_view) (bracketed room name spot words.old) result
+        words.new }
 {
     if room == 0 {
         return generic_spec(alloc, words, room, name);

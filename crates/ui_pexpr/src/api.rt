@@ -68,11 +68,14 @@ impl<'a> Reading<'a> {
         self.tokens.len().saturating_sub(left)
     }
 
-    // The fault where so many words are left, and where it is known whether a deeper form goes on there.
+    // The fault where so many words are left, and where it is known whether a deeper form goes on
+    // there.
     fn fault(&self, alloc: Global, left: usize, deep: bool) -> ParseFault
         requires scanned { Tokens self.now.bytes.now self.now.tokens.now }
         requires inside { self.now.from ≤ length self.now.tokens.now }
-        ensures { (result ≡ no_memory → ⊥) → result ≡ told_behind self.now.bytes.now self.now.tokens.now self.now.from (length self.now.tokens.now - left - self.now.from) deep }
+        ensures { (result ≡ no_memory → ⊥) → result
+            ≡ told_behind self.now.bytes.now self.now.tokens.now self.now.from
+            (length self.now.tokens.now - left - self.now.from) deep }
     {
         let front = Front {
             bytes: self.bytes,
@@ -97,7 +100,8 @@ impl<'a> Reading<'a> {
     ) -> Result<bool, NoMemory>
         requires scanned { Tokens self.now.bytes.now self.now.tokens.now }
         requires inside { self.now.from ≤ length self.now.tokens.now }
-        ensures { IfOk result (λ b. b ≡ leads sought budget (drop self.now.from (words self.now.bytes.now self.now.tokens.now)) left) }
+        ensures { IfOk result (λ b. b ≡ leads sought budget
+            (drop self.now.from (words self.now.bytes.now self.now.tokens.now)) left) }
     {
         let mut words = self.start();
         match sought {
@@ -121,7 +125,11 @@ impl<'a> Reading<'a> {
         requires scanned { Tokens self.now.bytes.now self.now.tokens.now }
         requires inside { self.now.from ≤ length self.now.tokens.now }
         requires room { budget ≤ 200 }
-        ensures { (result ≡ no_memory → ⊥) → result ≡ told_behind self.now.bytes.now self.now.tokens.now self.now.from (length self.now.tokens.now - left - self.now.from) (leads sought (budget + 4) (drop self.now.from (words self.now.bytes.now self.now.tokens.now)) left) }
+        ensures { (result ≡ no_memory → ⊥) → result
+            ≡ told_behind self.now.bytes.now self.now.tokens.now self.now.from
+            (length self.now.tokens.now - left - self.now.from)
+            (leads sought (budget + 4) (drop self.now.from
+            (words self.now.bytes.now self.now.tokens.now)) left) }
     {
         match self.leads(alloc, sought, budget + FURTHER_LEVELS, left) {
             Ok(deep) => self.fault(alloc, left, deep),
@@ -138,7 +146,10 @@ impl<'a> Reading<'a> {
         requires scanned { Tokens self.now.bytes.now self.now.tokens.now }
         requires inside { self.now.from ≤ length self.now.tokens.now }
         requires room { budget ≤ 200 }
-        ensures { Answers view self.now.bytes.now self.now.tokens.now self.now.from (expr budget header (drop self.now.from (words self.now.bytes.now self.now.tokens.now))) (expr (budget + 4) header (drop self.now.from (words self.now.bytes.now self.now.tokens.now))) result }
+        ensures { Answers view self.now.bytes.now self.now.tokens.now self.now.from
+            (expr budget header (drop self.now.from (words self.now.bytes.now self.now.tokens.now)))
+            (expr (budget + 4) header (drop self.now.from
+            (words self.now.bytes.now self.now.tokens.now))) result }
     {
         let mut words = self.start();
         match expr_of_budget(alloc, &mut words, budget, header) {
@@ -154,7 +165,10 @@ impl<'a> Reading<'a> {
         requires scanned { Tokens self.now.bytes.now self.now.tokens.now }
         requires inside { self.now.from ≤ length self.now.tokens.now }
         requires room { budget ≤ 200 }
-        ensures { Answers type_view self.now.bytes.now self.now.tokens.now self.now.from (type budget (drop self.now.from (words self.now.bytes.now self.now.tokens.now))) (type (budget + 4) (drop self.now.from (words self.now.bytes.now self.now.tokens.now))) result }
+        ensures { Answers type_view self.now.bytes.now self.now.tokens.now self.now.from
+            (type budget (drop self.now.from (words self.now.bytes.now self.now.tokens.now)))
+            (type (budget + 4) (drop self.now.from (words self.now.bytes.now self.now.tokens.now)))
+            result }
     {
         let mut words = self.start();
         match type_of_budget(alloc, &mut words, budget) {
@@ -170,7 +184,10 @@ impl<'a> Reading<'a> {
         requires scanned { Tokens self.now.bytes.now self.now.tokens.now }
         requires inside { self.now.from ≤ length self.now.tokens.now }
         requires room { budget ≤ 200 }
-        ensures { Answers type_view self.now.bytes.now self.now.tokens.now self.now.from (sig_of budget (drop self.now.from (words self.now.bytes.now self.now.tokens.now))) (sig_of (budget + 4) (drop self.now.from (words self.now.bytes.now self.now.tokens.now))) result }
+        ensures { Answers type_view self.now.bytes.now self.now.tokens.now self.now.from
+            (sig_of budget (drop self.now.from (words self.now.bytes.now self.now.tokens.now)))
+            (sig_of (budget + 4) (drop self.now.from
+            (words self.now.bytes.now self.now.tokens.now))) result }
     {
         let mut words = self.start();
         match sig(alloc, &mut words, budget) {
@@ -183,15 +200,15 @@ impl<'a> Reading<'a> {
     }
 }
 
-/// The expression that begins at a token, with the number of the token behind it: the longest list of words from there
-/// with which an expression begins, where it is itself one. In a header braces don't go on with a type's name. The depth
-/// is that of what the expression is a part of.
+/// The expression that begins at a token, with the number of the token behind it: the longest list
+/// of words from there with which an expression begins, where it is itself one. In a header braces
+/// don't go on with a type's name. The depth is that of what the expression is a part of.
 ///
 /// # Errors
 ///
-/// Where that list is none, the fault stands at the word behind it: `TooDeep` where a deeper expression, however deep,
-/// begins with that word too, else `Outside` where the word begins a form without trees, else `Unexpected`.
-/// `BadImportPath` and the forms of files are never answered.
+/// Where that list is none, the fault stands at the word behind it: `TooDeep` where a deeper
+/// expression, however deep, begins with that word too, else `Outside` where the word begins a form
+/// without trees, else `Unexpected`. `BadImportPath` and the forms of files are never answered.
 #[tactic(auto, using(crate::proofs::Answered::expr_parsed))]
 pub fn parse_expr(
     alloc: Global,

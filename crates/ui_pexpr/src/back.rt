@@ -47,7 +47,8 @@ pub fn before_last(front: &[Token]) -> &[Token]
     }
 }
 
-// How many brackets are closed behind a token and still open before it, or none where the way back ends at the token.
+// How many brackets are closed behind a token and still open before it, or none where the way back
+// ends at the token.
 fn next_level(semicolons: bool, level: usize, kind: TokenKind) -> Option<usize>
     requires { level + 1 < 2 ^ 64 }
     ensures { result ≡ spec.next_level semicolons level kind }
@@ -64,10 +65,11 @@ fn next_level(semicolons: bool, level: usize, kind: TokenKind) -> Option<usize>
     Some(level)
 }
 
-/// The tokens up to the innermost bracket that is open behind them, with it; with semicolons, up to the last semicolon
-/// that is beside what follows, if one comes later than the bracket.
+/// The tokens up to the innermost bracket that is open behind them, with it; with semicolons, up to
+/// the last semicolon that is beside what follows, if one comes later than the bracket.
 pub fn opening(front: &[Token], semicolons: bool) -> &[Token]
-    ensures words { (bytes : List ℕ) → back_of bytes result.now ≡ spec.opening semicolons 0 (back_of bytes front.now) }
+    ensures words { (bytes : List ℕ) → back_of bytes result.now
+        ≡ spec.opening semicolons 0 (back_of bytes front.now) }
     ensures within { length result.now ≤ length front.now }
 {
     let mut level = 0;

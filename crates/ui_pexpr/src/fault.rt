@@ -27,7 +27,8 @@ pub enum Form {
     GenericAlias,
 }
 
-/// Why nothing was read. A place is the offset of a token's first byte, or the end of the bytes where no token is left.
+/// Why nothing was read. A place is the offset of a token's first byte, or the end of the bytes
+/// where no token is left.
 #[derive(Clone, Copy, Debug, PartialEq, Eq)]
 pub enum ParseFault {
     /// No form goes on with the token.
@@ -77,7 +78,8 @@ pub fn first_offset(bytes: &[u8], tokens: &[Token]) -> usize
     }
 }
 
-/// The fault at a place, where it is known whether a deeper form goes on there, and which form without trees begins there.
+/// The fault at a place, where it is known whether a deeper form goes on there, and which form
+/// without trees begins there.
 pub fn told(deep: bool, form: Option<Form>, at: usize) -> ParseFault
     ensures { result ≡ spec.told deep form at }
 {

@@ -76,7 +76,8 @@ impl<'a> Front<'a> {
     pub fn words_from(&self, start: usize) -> Cursor<'a>
         requires scanned { Tokens self.now.bytes.now self.now.tokens.now }
         requires inside { start ≤ self.now.count }
-        ensures { result ≡ drop start (front_of self.now.bytes.now self.now.tokens.now self.now.from self.now.count) }
+        ensures { result ≡ drop start (front_of self.now.bytes.now self.now.tokens.now self.now.from
+            self.now.count) }
     {
         Cursor::at(self.bytes, self.tokens, self.from + start).front(self.count - start)
     }
@@ -84,7 +85,8 @@ impl<'a> Front<'a> {
     // Whether it ends with a whole field of a struct that is open.
     fn ends_in_field(&self, alloc: Global) -> Result<bool, NoMemory>
         requires scanned { Tokens self.now.bytes.now self.now.tokens.now }
-        ensures { let front = front_of self.now.bytes.now self.now.tokens.now self.now.from self.now.count in IfOk result (λ b. b ≡ spec.behind_field front (reverse front)) }
+        ensures { let front = front_of self.now.bytes.now self.now.tokens.now self.now.from
+            self.now.count in IfOk result (λ b. b ≡ spec.behind_field front (reverse front)) }
     {
         let tokens = self.tokens();
         if !in_struct(opening(tokens, false)) {
@@ -96,7 +98,8 @@ impl<'a> Front<'a> {
 
     fn tag_by_kind(&self, alloc: Global, kind: TokenKind) -> Result<Option<Form>, NoMemory>
         requires scanned { Tokens self.now.bytes.now self.now.tokens.now }
-        ensures { IfOk result (λ f. f ≡ spec.tag_by_kind (front_of self.now.bytes.now self.now.tokens.now self.now.from self.now.count) kind) }
+        ensures { IfOk result (λ f. f ≡ spec.tag_by_kind
+            (front_of self.now.bytes.now self.now.tokens.now self.now.from self.now.count) kind) }
     {
         match kind {
             TokenKind::Str => Ok(form_if(self.ends_in_field(alloc)?, Form::Tag)),
@@ -104,15 +107,16 @@ impl<'a> Front<'a> {
         }
     }
 
-    /// The form without trees that a token of this kind begins behind it, where no expression or type goes on with the
-    /// token.
+    /// The form without trees that a token of this kind begins behind it, where no expression or
+    /// type goes on with the token.
     ///
     /// # Errors
     ///
     /// Want of memory.
     pub fn form_by_kind(&self, alloc: Global, kind: TokenKind) -> Result<Option<Form>, NoMemory>
         requires scanned { Tokens self.now.bytes.now self.now.tokens.now }
-        ensures { IfOk result (λ f. f ≡ spec.form_by_kind (front_of self.now.bytes.now self.now.tokens.now self.now.from self.now.count) kind) }
+        ensures { IfOk result (λ f. f ≡ spec.form_by_kind
+            (front_of self.now.bytes.now self.now.tokens.now self.now.from self.now.count) kind) }
     {
         match form_of(kind) {
             Some(form) => Ok(Some(form)),
@@ -124,7 +128,8 @@ impl<'a> Front<'a> {
     #[tactic(auto, using(crate::proofs::FrontForms::kind_behind))]
     fn form_behind(&self, alloc: Global) -> Result<Option<Form>, NoMemory>
         requires scanned { Tokens self.now.bytes.now self.now.tokens.now }
-        ensures { IfOk result (λ f. f ≡ faults.form_behind spec.form_at (drop self.now.from (words self.now.bytes.now self.now.tokens.now)) self.now.count) }
+        ensures { IfOk result (λ f. f ≡ faults.form_behind spec.form_at
+            (drop self.now.from (words self.now.bytes.now self.now.tokens.now)) self.now.count) }
     {
         match first_kind(self.rest()) {
             None => Ok(None),
@@ -135,7 +140,8 @@ impl<'a> Front<'a> {
     // The fault behind it, where it is known whether a deeper form goes on there.
     pub(crate) fn fault(&self, alloc: Global, deep: bool) -> Result<ParseFault, NoMemory>
         requires scanned { Tokens self.now.bytes.now self.now.tokens.now }
-        ensures { IfOk result (λ f. f ≡ told_behind self.now.bytes.now self.now.tokens.now self.now.from self.now.count deep) }
+        ensures { IfOk result (λ f. f ≡ told_behind self.now.bytes.now self.now.tokens.now
+            self.now.from self.now.count deep) }
     {
         let at = first_offset(self.bytes, self.rest());
         if deep {

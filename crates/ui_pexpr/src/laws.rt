@@ -1,6 +1,7 @@
 //! Laws, each a function whose contract is the statement.
 
-ghost use Rattle.ui_pexpr.specs.Laws.{ExprFaultsStay, HasOneExpr, HasOneType, HasOneSig, SigFaultsStay, TypeFaultsStay};
+ghost use Rattle.ui_pexpr.specs.Laws.{ExprFaultsStay, HasOneExpr, HasOneType, HasOneSig};
+ghost use Rattle.ui_pexpr.specs.Laws.{SigFaultsStay, TypeFaultsStay};
 
 /// No words have two expressions as their trees.
 pub fn one_expr_tree()

@@ -39,7 +39,8 @@ impl Arguments {
     }
 
     pub fn add(self, next: Sub, spread: Option<Spot>) -> Result<Arguments, NoMemory>
-        ensures { IfOk result (λ l. see_arguments l ≡ spec.add_argument (see_arguments self) (see next) spread) }
+        ensures { IfOk result (λ l. see_arguments l ≡ spec.add_argument (see_arguments self)
+            (see next) spread) }
     {
         let Arguments {
             mut items,
@@ -67,8 +68,10 @@ where
     // Arg [ "..." ]
     #[tactic(auto, unfolding(ui_syntax::specs::Exprs::argument, ui_parse::specs::Reader::eat, ui_parse::specs::Reader::take_by))]
     fn argument(&self, words: &mut Cursor<'_>, args: Arguments) -> Result<Arguments, ParseError>
-        requires { Nests self.now.types.room (F.pre self.now.types.part) (F.post self.now.types.part) }
-        ensures { Reads see_arguments (spec.argument self.now.types.room (readers self.now.types.room) (see_arguments args) words.old) result words.new }
+        requires { Nests self.now.types.room (F.pre self.now.types.part)
+            (F.post self.now.types.part) }
+        ensures { Reads see_arguments (spec.argument self.now.types.room
+            (readers self.now.types.room) (see_arguments args) words.old) result words.new }
     {
         let next = match self.types.level_at(words, Site::Argument, 1) {
             Ok(next) => next,
@@ -82,8 +85,11 @@ where
     }
 
     fn argument_list(&self, words: &mut Cursor<'_>) -> Result<Arguments, ParseError>
-        requires { Nests self.now.types.room (F.pre self.now.types.part) (F.post self.now.types.part) }
-        ensures { Reads see_arguments (reader.parts Comma RParen spec.call_ending (spec.argument self.now.types.room (readers self.now.types.room)) spec.no_arguments words.old) result words.new }
+        requires { Nests self.now.types.room (F.pre self.now.types.part)
+            (F.post self.now.types.part) }
+        ensures { Reads see_arguments (reader.parts Comma RParen spec.call_ending
+            (spec.argument self.now.types.room (readers self.now.types.room)) spec.no_arguments
+            words.old) result words.new }
     {
         let args = Arguments::new(self.types.alloc);
         parts(
@@ -98,8 +104,10 @@ where
     // Behind "(".
     #[tactic(auto, unfolding(ui_syntax::specs::Exprs::called))]
     pub(crate) fn called(&self, words: &mut Cursor<'_>, of: Sub) -> Result<Sub, ParseError>
-        requires { Nests self.now.types.room (F.pre self.now.types.part) (F.post self.now.types.part) }
-        ensures { Reads see (spec.called self.now.types.room (readers self.now.types.room) (see of) words.old) result words.new }
+        requires { Nests self.now.types.room (F.pre self.now.types.part)
+            (F.post self.now.types.part) }
+        ensures { Reads see (spec.called self.now.types.room (readers self.now.types.room)
+            (see of) words.old) result words.new }
     {
         let args = match self.argument_list(words) {
             Ok(args) => args,

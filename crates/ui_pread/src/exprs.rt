@@ -38,7 +38,8 @@ fn pointer_alone(
     of: Boxed<TypeExpr>,
     depth: u32,
 ) -> Result<Sub, NoMemory>
-    ensures { IfOk result (λ s. see s ≡ of_tree (type_arg (pointer spot (type_view of))) spot (suc depth)) }
+    ensures { IfOk result (λ s. see s ≡ of_tree (type_arg (pointer spot (type_view of))) spot
+        (suc depth)) }
 {
     let pointer = Boxed::new(alloc, TypeExpr::pointer(spot, of))?;
     expr_over(alloc, ExprTree::type_arg(pointer), spot, depth)
@@ -55,8 +56,10 @@ where
         site: Site,
         prefix: Prefix,
     ) -> Result<Sub, ParseError>
-        requires { Nests self.now.types.room (F.pre self.now.types.part) (F.post self.now.types.part) }
-        ensures { Reads see (spec.prefixed self.now.types.room (readers self.now.types.room) site (see_prefix prefix) words.old) result words.new }
+        requires { Nests self.now.types.room (F.pre self.now.types.part)
+            (F.post self.now.types.part) }
+        ensures { Reads see (spec.prefixed self.now.types.room (readers self.now.types.room) site
+            (see_prefix prefix) words.old) result words.new }
     {
         let Prefix { op, spot } = prefix;
         let of = match self.types.level_at(words, prefix_site(op, site), 6) {
@@ -82,8 +85,10 @@ where
 
     #[tactic(auto, using(crate::proofs::Prefixes::unary_low, crate::proofs::Prefixes::unary_prefix, crate::proofs::Prefixes::unary_plain))]
     fn unary_expr(&self, words: &mut Cursor<'_>, site: Site) -> Result<Sub, ParseError>
-        requires { Nests self.now.types.room (F.pre self.now.types.part) (F.post self.now.types.part) }
-        ensures { Reads see (spec.unary_expr self.now.types.room (readers self.now.types.room) site words.old) result words.new }
+        requires { Nests self.now.types.room (F.pre self.now.types.part)
+            (F.post self.now.types.part) }
+        ensures { Reads see (spec.unary_expr self.now.types.room
+            (readers self.now.types.room) site words.old) result words.new }
     {
         if self.types.room == 0 {
             return self.primary(words, site);
@@ -103,8 +108,10 @@ where
         least: u8,
         left: Sub,
     ) -> Result<Turn<Sub>, ParseError>
-        requires { Nests self.now.types.room (F.pre self.now.types.part) (F.post self.now.types.part) }
-        ensures { Reads (see_turn see) (operation_turn self.now.types.room (readers self.now.types.room) site least (see left) words.old) result words.new }
+        requires { Nests self.now.types.room (F.pre self.now.types.part)
+            (F.post self.now.types.part) }
+        ensures { Reads (see_turn see) (operation_turn self.now.types.room
+            (readers self.now.types.room) site least (see left) words.old) result words.new }
     {
         let Some(op) = take_operator(words, least) else {
             return Ok(Turn::Done(left));
@@ -130,8 +137,11 @@ where
         least: u8,
         left: Sub,
     ) -> Result<Sub, ParseError>
-        requires { Nests self.now.types.room (F.pre self.now.types.part) (F.post self.now.types.part) }
-        ensures { Reads see (spec.operations self.now.types.room (readers self.now.types.room) site least (suc (suc self.now.types.room)) (see left) words.old) result words.new }
+        requires { Nests self.now.types.room (F.pre self.now.types.part)
+            (F.post self.now.types.part) }
+        ensures { Reads see (spec.operations self.now.types.room
+            (readers self.now.types.room) site least (suc (suc self.now.types.room))
+            (see left) words.old) result words.new }
     {
         let mut left = left;
         // Each turn makes the tree deeper.
@@ -157,8 +167,10 @@ where
         site: Site,
         least: u8,
     ) -> Result<Sub, ParseError>
-        requires { Nests self.now.types.room (F.pre self.now.types.part) (F.post self.now.types.part) }
-        ensures { Reads see (spec.level self.now.types.room (readers self.now.types.room) site least words.old) result words.new }
+        requires { Nests self.now.types.room (F.pre self.now.types.part)
+            (F.post self.now.types.part) }
+        ensures { Reads see (spec.level self.now.types.room (readers self.now.types.room) site least
+            words.old) result words.new }
     {
         let left = match self.unary_expr(words, site) {
             Ok(left) => left,

@@ -1,4 +1,5 @@
-//! Indices, slices and instances. Go specification, "Index expressions", "Slice expressions", "Instantiations".
+//! Indices, slices and instances. Go specification, "Index expressions", "Slice expressions",
+//! "Instantiations".
 
 ghost use Rattle.std.specs.Prelude.{◌≡◌, None, IfOk};
 ghost use Rattle.std.specs.Option.{option_map};
@@ -48,7 +49,9 @@ where
         high: Option<Sub>,
         most: Option<Sub>,
     ) -> Result<Sub, NoMemory>
-        ensures { IfOk result (λ s. see s ≡ spec.slice_of self.now.types.room (readers self.now.types.room) (see of) (see_bound low) (bound_depth low) (see_bound high) (bound_depth high) (see_bound most) (bound_depth most)) }
+        ensures { IfOk result (λ s. see s ≡ spec.slice_of self.now.types.room
+            (readers self.now.types.room) (see of) (see_bound low) (bound_depth low)
+            (see_bound high) (bound_depth high) (see_bound most) (bound_depth most)) }
     {
         let (low, low_depth) = bound(low);
         let (high, high_depth) = bound(high);
@@ -67,8 +70,10 @@ where
         low: Option<Sub>,
         high: Sub,
     ) -> Result<Sub, ParseError>
-        requires { Nests self.now.types.room (F.pre self.now.types.part) (F.post self.now.types.part) }
-        ensures { Reads see (spec.third_bound self.now.types.room (readers self.now.types.room) (see of) (see_bound low) (bound_depth low) (see high) words.old) result words.new }
+        requires { Nests self.now.types.room (F.pre self.now.types.part)
+            (F.post self.now.types.part) }
+        ensures { Reads see (spec.third_bound self.now.types.room (readers self.now.types.room)
+            (see of) (see_bound low) (bound_depth low) (see high) words.old) result words.new }
     {
         let most = match self.types.an_expr(words) {
             Ok(most) => most,
@@ -91,8 +96,10 @@ where
         low: Option<Sub>,
         high: Sub,
     ) -> Result<Sub, ParseError>
-        requires { Nests self.now.types.room (F.pre self.now.types.part) (F.post self.now.types.part) }
-        ensures { Reads see (spec.second_bound self.now.types.room (readers self.now.types.room) (see of) (see_bound low) (bound_depth low) (see high) words.old) result words.new }
+        requires { Nests self.now.types.room (F.pre self.now.types.part)
+            (F.post self.now.types.part) }
+        ensures { Reads see (spec.second_bound self.now.types.room (readers self.now.types.room)
+            (see of) (see_bound low) (bound_depth low) (see high) words.old) result words.new }
     {
         if words.take(TokenKind::Colon).is_some() {
             return self.third_bound(words, of, low, high);
@@ -109,8 +116,10 @@ where
     // Behind the first ":".
     #[tactic(auto, unfolding(ui_syntax::specs::Exprs::bounds, ui_parse::specs::Reader::take_by))]
     fn bounds(&self, words: &mut Cursor<'_>, of: Sub, low: Option<Sub>) -> Result<Sub, ParseError>
-        requires { Nests self.now.types.room (F.pre self.now.types.part) (F.post self.now.types.part) }
-        ensures { Reads see (spec.bounds self.now.types.room (readers self.now.types.room) (see of) (see_bound low) (bound_depth low) words.old) result words.new }
+        requires { Nests self.now.types.room (F.pre self.now.types.part)
+            (F.post self.now.types.part) }
+        ensures { Reads see (spec.bounds self.now.types.room (readers self.now.types.room) (see of)
+            (see_bound low) (bound_depth low) words.old) result words.new }
     {
         if words.take(TokenKind::RBracket).is_some() {
             return match self.slice_of(of, low, None, None) {
@@ -126,7 +135,8 @@ where
     }
 
     fn instance_of(&self, of: Sub, args: TypeSubs) -> Result<Sub, NoMemory>
-        ensures { IfOk result (λ s. see s ≡ spec.instance_of self.now.types.room (readers self.now.types.room) (see of) (see_types args)) }
+        ensures { IfOk result (λ s. see s ≡ spec.instance_of self.now.types.room
+            (readers self.now.types.room) (see of) (see_types args)) }
     {
         let spot = of.spot;
         let depth = of.depth.max(args.depth);
@@ -141,8 +151,10 @@ where
     // A comma and more arguments, where the first is a type.
     #[tactic(auto, unfolding(ui_parse::specs::Reader::take_by, ui_parse::specs::Reader::expect))]
     fn instance_behind(&self, words: &mut Cursor<'_>, of: Sub, at: Sub) -> Result<Sub, ParseError>
-        requires { Nests self.now.types.room (F.pre self.now.types.part) (F.post self.now.types.part) }
-        ensures { Reads see (spec.instance_behind self.now.types.room (readers self.now.types.room) (see of) at.depth (as_type (see at).tree) words.old) result words.new }
+        requires { Nests self.now.types.room (F.pre self.now.types.part)
+            (F.post self.now.types.part) }
+        ensures { Reads see (spec.instance_behind self.now.types.room (readers self.now.types.room)
+            (see of) at.depth (as_type (see at).tree) words.old) result words.new }
     {
         if !is_type(at.tree.get()) {
             return Err(ParseError::Fault);
@@ -165,8 +177,10 @@ where
     // Behind the first part between brackets, which is an expression.
     #[tactic(auto, unfolding(ui_parse::specs::Reader::take_by))]
     fn behind_expr(&self, words: &mut Cursor<'_>, of: Sub, at: Sub) -> Result<Sub, ParseError>
-        requires { Nests self.now.types.room (F.pre self.now.types.part) (F.post self.now.types.part) }
-        ensures { Reads see (spec.behind_index self.now.types.room (readers self.now.types.room) (see of) (see at) None words.old) result words.new }
+        requires { Nests self.now.types.room (F.pre self.now.types.part)
+            (F.post self.now.types.part) }
+        ensures { Reads see (spec.behind_index self.now.types.room (readers self.now.types.room)
+            (see of) (see at) None words.old) result words.new }
     {
         if words.take(TokenKind::Colon).is_some() {
             return self.bounds(words, of, Some(at));
@@ -190,8 +204,10 @@ where
     // Behind the first part between brackets.
     #[tactic(auto, using(crate::proofs::Alone::alone_is, crate::proofs::Alone::behind_types))]
     fn behind_index(&self, words: &mut Cursor<'_>, of: Sub, at: Sub) -> Result<Sub, ParseError>
-        requires { Nests self.now.types.room (F.pre self.now.types.part) (F.post self.now.types.part) }
-        ensures { Reads see (spec.behind_index self.now.types.room (readers self.now.types.room) (see of) (see at) (only_type (see at).tree) words.old) result words.new }
+        requires { Nests self.now.types.room (F.pre self.now.types.part)
+            (F.post self.now.types.part) }
+        ensures { Reads see (spec.behind_index self.now.types.room (readers self.now.types.room)
+            (see of) (see at) (only_type (see at).tree) words.old) result words.new }
     {
         if !is_type_alone(at.tree.get()) {
             return self.behind_expr(words, of, at);
@@ -213,8 +229,10 @@ where
     // Behind "[".
     #[tactic(auto, unfolding(ui_syntax::specs::Exprs::indexed, ui_parse::specs::Reader::take_by))]
     pub(crate) fn indexed(&self, words: &mut Cursor<'_>, of: Sub) -> Result<Sub, ParseError>
-        requires { Nests self.now.types.room (F.pre self.now.types.part) (F.post self.now.types.part) }
-        ensures { Reads see (spec.indexed self.now.types.room (readers self.now.types.room) (see of) words.old) result words.new }
+        requires { Nests self.now.types.room (F.pre self.now.types.part)
+            (F.post self.now.types.part) }
+        ensures { Reads see (spec.indexed self.now.types.room (readers self.now.types.room)
+            (see of) words.old) result words.new }
     {
         if words.take(TokenKind::Colon).is_some() {
             return self.bounds(words, of, None);

@@ -31,7 +31,8 @@ where
 {
     #[tactic(auto, using(crate::proofs::Budgets::asked_level, crate::proofs::Budgets::asked_level_fault, crate::proofs::Budgets::asked_type, crate::proofs::Budgets::asked_type_fault, crate::proofs::Budgets::asked_braces, crate::proofs::Budgets::asked_braces_fault))]
     fn own_part(&self, words: &mut Cursor<'_>, ask: Ask) -> Result<Got, ParseError>
-        requires { Nests self.now.types.room (F.pre self.now.types.part) (F.post self.now.types.part) }
+        requires { Nests self.now.types.room (F.pre self.now.types.part)
+            (F.post self.now.types.part) }
         ensures { Reads see_got (asked (suc self.now.types.room) ask words.old) result words.new }
     {
         match ask {
@@ -72,7 +73,8 @@ pub(crate) fn part(
     Exprs { types }.own_part(words, ask)
 }
 
-/// An expression within the budget of depth, whose operators bind at least so tightly; at some sites a type alone.
+/// An expression within the budget of depth, whose operators bind at least so tightly; at some
+/// sites a type alone.
 #[tactic(auto, using(ui_ptype::proofs::AskedReads::is_level, ui_ptype::proofs::AskedReads::level_read, ui_ptype::proofs::AskedReads::level_fault))]
 pub fn level(
     alloc: Global,

@@ -19,7 +19,8 @@ use ui_tree::{Boxed, ExprTree};
 
 // One more element, with its key.
 fn add_keyed(alloc: Global, elems: Subs, key: Sub, value: Sub) -> Result<Subs, NoMemory>
-    ensures { IfOk result (λ l. see_all l ≡ add (see_all elems) (keyed key.spot (see key).tree (see value).tree) (max key.depth value.depth)) }
+    ensures { IfOk result (λ l. see_all l ≡ add (see_all elems)
+        (keyed key.spot (see key).tree (see value).tree) (max key.depth value.depth)) }
 {
     let depth = key.depth.max(value.depth);
     let tree = Boxed::new(alloc, ExprTree::keyed(key.spot, key.tree, value.tree))?;
@@ -33,8 +34,10 @@ where
     // Expr | Lit
     #[tactic(auto, unfolding(ui_parse::specs::Reader::take_by))]
     fn item(&self, words: &mut Cursor<'_>) -> Result<Sub, ParseError>
-        requires { Nests self.now.types.room (F.pre self.now.types.part) (F.post self.now.types.part) }
-        ensures { Reads see (spec.item self.now.types.room (readers self.now.types.room) words.old) result words.new }
+        requires { Nests self.now.types.room (F.pre self.now.types.part)
+            (F.post self.now.types.part) }
+        ensures { Reads see (spec.item self.now.types.room (readers self.now.types.room) words.old)
+            result words.new }
     {
         if self.types.room == 0 {
             return self.types.an_expr(words);
@@ -57,8 +60,10 @@ where
     // [ Item ":" ] Item
     #[tactic(auto, unfolding(ui_syntax::specs::Exprs::elem, ui_parse::specs::Reader::take_by))]
     fn elem(&self, words: &mut Cursor<'_>, elems: Subs) -> Result<Subs, ParseError>
-        requires { Nests self.now.types.room (F.pre self.now.types.part) (F.post self.now.types.part) }
-        ensures { Reads see_all (spec.elem self.now.types.room (readers self.now.types.room) (see_all elems) words.old) result words.new }
+        requires { Nests self.now.types.room (F.pre self.now.types.part)
+            (F.post self.now.types.part) }
+        ensures { Reads see_all (spec.elem self.now.types.room (readers self.now.types.room)
+            (see_all elems) words.old) result words.new }
     {
         let first = match self.item(words) {
             Ok(first) => first,
@@ -82,8 +87,10 @@ where
 
     #[tactic(auto, unfolding(ui_syntax::specs::Exprs::braces))]
     pub(crate) fn own_braces(&self, words: &mut Cursor<'_>) -> Result<Subs, ParseError>
-        requires { Nests self.now.types.room (F.pre self.now.types.part) (F.post self.now.types.part) }
-        ensures { Reads see_all (spec.braces self.now.types.room (readers self.now.types.room) words.old) result words.new }
+        requires { Nests self.now.types.room (F.pre self.now.types.part)
+            (F.post self.now.types.part) }
+        ensures { Reads see_all (spec.braces self.now.types.room
+            (readers self.now.types.room) words.old) result words.new }
     {
         let elems = Subs::new(self.types.alloc);
         parts(

@@ -28,7 +28,9 @@ use ui_tree::{ExprTree, TypeExpr};
 
 // The literal of the type with these elements.
 fn literal_with(alloc: Global, of: TypeSub, elems: Subs) -> Result<Sub, NoMemory>
-    ensures { IfOk result (λ s. see s ≡ of_tree (composite of.spot (see_type of).tree (trees (see_all elems).items)) of.spot (suc (max of.depth (suc elems.depth)))) }
+    ensures { IfOk result (λ s. see s ≡ of_tree
+        (composite of.spot (see_type of).tree (trees (see_all elems).items)) of.spot
+        (suc (max of.depth (suc elems.depth)))) }
 {
     let spot = of.spot;
     let depth = of.depth.max(deeper(elems.depth)?);
@@ -46,7 +48,9 @@ where
 {
     // The type alone, where the site takes it; `[...]T` stands before braces only.
     fn alone(&self, site: Site, of: TypeSub) -> Result<Sub, ParseError>
-        ensures { (ws : List Word) → Reads see (spec.alone self.now.types.room (readers self.now.types.room) site (see_type of) ws) result ws }
+        ensures { (ws : List Word) → Reads see
+            (spec.alone self.now.types.room (readers self.now.types.room) site (see_type of) ws)
+            result ws }
     {
         if !takes_types(site) || is_counted(of.tree.get()) {
             return Err(ParseError::Fault);
@@ -61,8 +65,10 @@ where
 
     #[tactic(auto, unfolding(ui_parse::specs::Reader::take_by, ui_parse::specs::Reader::eat))]
     fn convert_or(&self, words: &mut Cursor<'_>, site: Site, of: TypeSub) -> Result<Sub, ParseError>
-        requires { Nests self.now.types.room (F.pre self.now.types.part) (F.post self.now.types.part) }
-        ensures { Reads see (spec.convert_or self.now.types.room (readers self.now.types.room) site (see_type of) words.old) result words.new }
+        requires { Nests self.now.types.room (F.pre self.now.types.part)
+            (F.post self.now.types.part) }
+        ensures { Reads see (spec.convert_or self.now.types.room (readers self.now.types.room) site
+            (see_type of) words.old) result words.new }
     {
         if is_counted(of.tree.get()) {
             return Err(ParseError::Fault);
@@ -89,8 +95,10 @@ where
 
     // Behind "{".
     pub(crate) fn literal_of(&self, words: &mut Cursor<'_>, of: TypeSub) -> Result<Sub, ParseError>
-        requires { Nests self.now.types.room (F.pre self.now.types.part) (F.post self.now.types.part) }
-        ensures { Reads see (spec.literal_of self.now.types.room (readers self.now.types.room) (see_type of) words.old) result words.new }
+        requires { Nests self.now.types.room (F.pre self.now.types.part)
+            (F.post self.now.types.part) }
+        ensures { Reads see (spec.literal_of self.now.types.room (readers self.now.types.room)
+            (see_type of) words.old) result words.new }
     {
         let elems = match self.types.nested_braces(words) {
             Ok(elems) => elems,
@@ -110,8 +118,10 @@ where
         site: Site,
         of: TypeSub,
     ) -> Result<Sub, ParseError>
-        requires { Nests self.now.types.room (F.pre self.now.types.part) (F.post self.now.types.part) }
-        ensures { Reads see (spec.behind_type self.now.types.room (readers self.now.types.room) site (see_type of) words.old) result words.new }
+        requires { Nests self.now.types.room (F.pre self.now.types.part)
+            (F.post self.now.types.part) }
+        ensures { Reads see (spec.behind_type self.now.types.room (readers self.now.types.room) site
+            (see_type of) words.old) result words.new }
     {
         if of.depth > self.types.room {
             return self.alone(site, of);
@@ -131,8 +141,11 @@ where
         site: Site,
         of: Option<TypeSub>,
     ) -> Result<Sub, ParseError>
-        requires { Nests self.now.types.room (F.pre self.now.types.part) (F.post self.now.types.part) }
-        ensures { Reads see (spec.maybe_behind self.now.types.room (readers self.now.types.room) site (option_map see_type of) words.old) result words.new }
+        requires { Nests self.now.types.room (F.pre self.now.types.part)
+            (F.post self.now.types.part) }
+        ensures { Reads see (spec.maybe_behind self.now.types.room
+            (readers self.now.types.room) site (option_map see_type of) words.old) result
+            words.new }
     {
         match of {
             Some(of) => self.behind_type(words, site, of),
@@ -142,8 +155,10 @@ where
 
     // A type for itself has as much room as an expression, else one level less.
     fn type_operand(&self, words: &mut Cursor<'_>, site: Site) -> Result<Sub, ParseError>
-        requires { Nests self.now.types.room (F.pre self.now.types.part) (F.post self.now.types.part) }
-        ensures { Reads see (spec.type_operand self.now.types.room (readers self.now.types.room) site words.old) result words.new }
+        requires { Nests self.now.types.room (F.pre self.now.types.part)
+            (F.post self.now.types.part) }
+        ensures { Reads see (spec.type_operand self.now.types.room
+            (readers self.now.types.room) site words.old) result words.new }
     {
         match site {
             Site::Argument => {
@@ -171,8 +186,11 @@ where
         spot: Spot,
         inner: Sub,
     ) -> Result<Sub, ParseError>
-        requires { Nests self.now.types.room (F.pre self.now.types.part) (F.post self.now.types.part) }
-        ensures { Reads see (spec.enclose self.now.types.room (readers self.now.types.room) site spot (see inner) (only_type (see inner).tree) words.old) result words.new }
+        requires { Nests self.now.types.room (F.pre self.now.types.part)
+            (F.post self.now.types.part) }
+        ensures { Reads see (spec.enclose self.now.types.room
+            (readers self.now.types.room) site spot (see inner)
+            (only_type (see inner).tree) words.old) result words.new }
     {
         let depth = inner.depth;
         if !is_type_alone(inner.tree.get()) {
@@ -208,8 +226,10 @@ where
         site: Site,
         spot: Spot,
     ) -> Result<Sub, ParseError>
-        requires { Nests self.now.types.room (F.pre self.now.types.part) (F.post self.now.types.part) }
-        ensures { Reads see (spec.parenthesized_operand self.now.types.room (readers self.now.types.room) site spot words.old) result words.new }
+        requires { Nests self.now.types.room (F.pre self.now.types.part)
+            (F.post self.now.types.part) }
+        ensures { Reads see (spec.parenthesized_operand self.now.types.room
+            (readers self.now.types.room) site spot words.old) result words.new }
     {
         let inner = match self.types.level_at(words, inner_site(site), 1) {
             Ok(inner) => inner,
@@ -223,8 +243,10 @@ where
 
     #[tactic(auto, using(crate::proofs::Operands::operand_literal, crate::proofs::Operands::operand_name, crate::proofs::Operands::operand_rest), unfolding(ui_parse::specs::Reader::take_by))]
     pub(crate) fn operand(&self, words: &mut Cursor<'_>, site: Site) -> Result<Sub, ParseError>
-        requires { Nests self.now.types.room (F.pre self.now.types.part) (F.post self.now.types.part) }
-        ensures { Reads see (spec.operand self.now.types.room (readers self.now.types.room) site words.old) result words.new }
+        requires { Nests self.now.types.room (F.pre self.now.types.part)
+            (F.post self.now.types.part) }
+        ensures { Reads see (spec.operand self.now.types.room
+            (readers self.now.types.room) site words.old) result words.new }
     {
         if let Some(literal) = words.take_literal(self.types.alloc)? {
             let spot = literal.spot;

@@ -58,7 +58,8 @@ pub fn sig(alloc: Global, words: &mut Cursor<'_>, budget: u32) -> Result<TypeSub
     .sig_type(words, spot)
 }
 
-/// The parameters of a signature whose parts have so much room, behind the parenthesis, in groups with one type.
+/// The parameters of a signature whose parts have so much room, behind the parenthesis, in groups
+/// with one type.
 pub fn params(alloc: Global, words: &mut Cursor<'_>, room: u32) -> Result<Groups, ParseError>
     ensures { Reads see_groups (spec.params room (readers room) words.old) result words.new }
 {
@@ -71,7 +72,8 @@ pub fn results(
     words: &mut Cursor<'_>,
     room: u32,
 ) -> Result<Option<TypeSub>, ParseError>
-    ensures { Reads (see_results room (readers room)) (spec.results room (readers room) words.old) result words.new }
+    ensures { Reads (see_results room (readers room)) (spec.results room (readers room) words.old)
+        result words.new }
 {
     Grammar { alloc, room, part }.results(words)
 }
@@ -84,7 +86,8 @@ pub fn bracket_type(
     site: TypeSite,
     spot: Spot,
 ) -> Result<TypeSub, ParseError>
-    ensures { Reads see_type (spec.bracket_type room (readers room) site spot words.old) result words.new }
+    ensures { Reads see_type (spec.bracket_type room (readers room) site spot words.old) result
+        words.new }
 {
     Grammar { alloc, room, part }.bracket_type(words, site, spot)
 }
@@ -107,7 +110,8 @@ pub fn union_from(
     room: u32,
     first: TypeSub,
 ) -> Result<Option<TypeSub>, ParseError>
-    ensures { Reads see_maybe (spec.union_from room (readers room) (see_type first) words.old) result words.new }
+    ensures { Reads see_maybe (spec.union_from room (readers room) (see_type first) words.old)
+        result words.new }
 {
     Grammar { alloc, room, part }.union_from(words, first)
 }

@@ -22,7 +22,8 @@ use ui_syntax::Site;
 use ui_tree::{ExprTree, Placed};
 
 fn selector_of(alloc: Global, of: Sub, member: Placed) -> Result<Sub, NoMemory>
-    ensures { IfOk result (λ s. see s ≡ of_tree (selector of.spot (see of).tree member) of.spot (suc of.depth)) }
+    ensures { IfOk result (λ s. see s ≡ of_tree (selector of.spot (see of).tree member) of.spot
+        (suc of.depth)) }
 {
     let spot = of.spot;
     let depth = of.depth;
@@ -39,8 +40,10 @@ where
     F: Fn(Global, &mut Cursor<'_>, u32, Ask) -> Result<Got, ParseError>,
 {
     fn asserted(&self, words: &mut Cursor<'_>, of: Sub) -> Result<Sub, ParseError>
-        requires { Nests self.now.types.room (F.pre self.now.types.part) (F.post self.now.types.part) }
-        ensures { Reads see (spec.asserted self.now.types.room (readers self.now.types.room) (see of) words.old) result words.new }
+        requires { Nests self.now.types.room (F.pre self.now.types.part)
+            (F.post self.now.types.part) }
+        ensures { Reads see (spec.asserted self.now.types.room (readers self.now.types.room)
+            (see of) words.old) result words.new }
     {
         if let Err(fault) = words.expect(TokenKind::LParen) {
             return Err(fault);
@@ -68,8 +71,10 @@ where
     // Behind ".".
     #[tactic(auto, unfolding(ui_syntax::specs::Exprs::selected, ui_parse::specs::Reader::take_by))]
     fn selected(&self, words: &mut Cursor<'_>, of: Sub) -> Result<Sub, ParseError>
-        requires { Nests self.now.types.room (F.pre self.now.types.part) (F.post self.now.types.part) }
-        ensures { Reads see (spec.selected self.now.types.room (readers self.now.types.room) (see of) words.old) result words.new }
+        requires { Nests self.now.types.room (F.pre self.now.types.part)
+            (F.post self.now.types.part) }
+        ensures { Reads see (spec.selected self.now.types.room (readers self.now.types.room)
+            (see of) words.old) result words.new }
     {
         match words.take_name(self.types.alloc) {
             Ok(Some(member)) => match selector_of(self.types.alloc, of, member) {
@@ -83,8 +88,10 @@ where
 
     // Behind "{", where the expression is a type's name.
     fn named_literal(&self, words: &mut Cursor<'_>, of: Sub) -> Result<Turn<Sub>, ParseError>
-        requires { Nests self.now.types.room (F.pre self.now.types.part) (F.post self.now.types.part) }
-        ensures { Reads (see_turn see) (named_literal self.now.types.room (readers self.now.types.room) (see of) words.old) result words.new }
+        requires { Nests self.now.types.room (F.pre self.now.types.part)
+            (F.post self.now.types.part) }
+        ensures { Reads (see_turn see) (named_literal self.now.types.room
+            (readers self.now.types.room) (see of) words.old) result words.new }
     {
         let of = match cover_type(self.types.alloc, words, of) {
             Ok(of) => of,
@@ -104,8 +111,11 @@ where
         site: Site,
         of: Sub,
     ) -> Result<Turn<Sub>, ParseError>
-        requires { Nests self.now.types.room (F.pre self.now.types.part) (F.post self.now.types.part) }
-        ensures { Reads (see_turn see) (literal_turn self.now.types.room (readers self.now.types.room) site (see of) (if_named (as_type (see of).tree)) words.old) result words.new }
+        requires { Nests self.now.types.room (F.pre self.now.types.part)
+            (F.post self.now.types.part) }
+        ensures { Reads (see_turn see) (literal_turn self.now.types.room
+            (readers self.now.types.room) site (see of)
+            (if_named (as_type (see of).tree)) words.old) result words.new }
     {
         if is_header(site) {
             return Ok(Turn::Done(of));
@@ -127,8 +137,10 @@ where
         site: Site,
         of: Sub,
     ) -> Result<Turn<Sub>, ParseError>
-        requires { Nests self.now.types.room (F.pre self.now.types.part) (F.post self.now.types.part) }
-        ensures { Reads (see_turn see) (suffix_turn self.now.types.room (readers self.now.types.room) site (see of) words.old) result words.new }
+        requires { Nests self.now.types.room (F.pre self.now.types.part)
+            (F.post self.now.types.part) }
+        ensures { Reads (see_turn see) (suffix_turn self.now.types.room
+            (readers self.now.types.room) site (see of) words.old) result words.new }
     {
         if words.take(TokenKind::Period).is_some() {
             return match self.selected(words, of) {
@@ -159,8 +171,10 @@ where
     }
 
     fn suffixes(&self, words: &mut Cursor<'_>, site: Site, of: Sub) -> Result<Sub, ParseError>
-        requires { Nests self.now.types.room (F.pre self.now.types.part) (F.post self.now.types.part) }
-        ensures { Reads see (spec.suffixes self.now.types.room (readers self.now.types.room) site (suc (suc self.now.types.room)) (see of) words.old) result words.new }
+        requires { Nests self.now.types.room (F.pre self.now.types.part)
+            (F.post self.now.types.part) }
+        ensures { Reads see (spec.suffixes self.now.types.room (readers self.now.types.room) site
+            (suc (suc self.now.types.room)) (see of) words.old) result words.new }
     {
         let mut of = of;
         // Each turn makes the tree deeper.
@@ -181,8 +195,10 @@ where
 
     #[tactic(auto, unfolding(ui_syntax::specs::Exprs::primary))]
     pub(crate) fn primary(&self, words: &mut Cursor<'_>, site: Site) -> Result<Sub, ParseError>
-        requires { Nests self.now.types.room (F.pre self.now.types.part) (F.post self.now.types.part) }
-        ensures { Reads see (spec.primary self.now.types.room (readers self.now.types.room) site words.old) result words.new }
+        requires { Nests self.now.types.room (F.pre self.now.types.part)
+            (F.post self.now.types.part) }
+        ensures { Reads see (spec.primary self.now.types.room
+            (readers self.now.types.room) site words.old) result words.new }
     {
         let of = match self.operand(words, site) {
             Ok(of) => of,

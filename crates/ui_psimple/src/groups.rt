@@ -40,7 +40,8 @@ fn one_more<R: SpecReader>(
     words: &mut Cursor<'_>,
     all: Deep<Items<R::Spec>>,
 ) -> Result<Deep<Items<R::Spec>>, ParseError>
-    ensures { Reads (see_list R.see) (spec.one_spec_more (R.reader reader.now) (see_list R.see all) words.old) result words.new }
+    ensures { Reads (see_list R.see) (spec.one_spec_more (R.reader reader.now)
+        (see_list R.see all) words.old) result words.new }
 {
     match reader.read(words) {
         Ok(next) => match all.add(next.of, next.depth) {
@@ -57,7 +58,8 @@ fn several<R: SpecReader>(
     words: &mut Cursor<'_>,
     reader: &R,
 ) -> Result<Deep<Items<R::Spec>>, ParseError>
-    ensures { Reads (see_list R.see) (parts Semi RParen any_end (spec.one_spec_more (R.reader reader.now)) empty words.old) result words.new }
+    ensures { Reads (see_list R.see) (parts Semi RParen any_end
+        (spec.one_spec_more (R.reader reader.now)) empty words.old) result words.new }
 {
     parts(
         words,
@@ -75,7 +77,8 @@ pub fn one_or_several<R: SpecReader>(
     words: &mut Cursor<'_>,
     reader: &R,
 ) -> Result<Deep<Specs<R::Spec>>, ParseError>
-    ensures { Reads (see_deep (specs_with R.see)) (spec.specs (R.reader reader.now) words.old) result words.new }
+    ensures { Reads (see_deep (specs_with R.see)) (spec.specs (R.reader reader.now) words.old)
+        result words.new }
 {
     match words.take(TokenKind::LParen) {
         Some(_) => match several(alloc, words, reader) {

@@ -17,8 +17,8 @@ use ui_parse::ParseError;
 use ui_ptype::{Sub, Subs, deeper};
 use ui_tree::{Items, Placed, RangePlaces, StmtTree};
 
-/// What begins a header or is a simple statement: an expression, another simple statement, or what stands before the
-/// expression of a range.
+/// What begins a header or is a simple statement: an expression, another simple statement, or what
+/// stands before the expression of a range.
 #[derive(Drop)]
 pub enum Head {
     Expression(Sub),
@@ -44,7 +44,9 @@ pub(crate) fn assign_over(
     places: Subs,
     values: Subs,
 ) -> Result<Head, NoMemory>
-    ensures { IfOk result (λ h. see_head h ≡ spec.stated (plain.assign spot (trees (see_all places).items) (trees (see_all values).items)) (max places.depth values.depth)) }
+    ensures { IfOk result (λ h. see_head h ≡ spec.stated
+        (plain.assign spot (trees (see_all places).items) (trees (see_all values).items))
+        (max places.depth values.depth)) }
 {
     let depth = places.depth.max(values.depth);
     let tree = StmtTree::Assign {
@@ -63,7 +65,9 @@ pub(crate) fn op_assign_over(
     op: BinOp,
     value: Sub,
 ) -> Result<Head, NoMemory>
-    ensures { IfOk result (λ h. see_head h ≡ spec.stated (plain.op_assign place.spot (see place).tree op (see value).tree) (max place.depth value.depth)) }
+    ensures { IfOk result (λ h. see_head h ≡ spec.stated
+        (plain.op_assign place.spot (see place).tree op (see value).tree)
+        (max place.depth value.depth)) }
 {
     let depth = place.depth.max(value.depth);
     let tree = StmtTree::OpAssign {
@@ -83,7 +87,8 @@ pub(crate) fn define_over(
     names: Items<Placed>,
     values: Subs,
 ) -> Result<Head, NoMemory>
-    ensures { IfOk result (λ h. see_head h ≡ spec.stated (plain.define spot names (trees (see_all values).items)) values.depth) }
+    ensures { IfOk result (λ h. see_head h ≡ spec.stated
+        (plain.define spot names (trees (see_all values).items)) values.depth) }
 {
     let depth = values.depth;
     let tree = StmtTree::Define {
@@ -97,7 +102,8 @@ pub(crate) fn define_over(
 /// A place with one more.
 #[tactic(auto, using(crate::specs::StmtViews::view_Increment))]
 pub(crate) fn increment_over(alloc: Global, place: Sub) -> Result<Head, NoMemory>
-    ensures { IfOk result (λ h. see_head h ≡ spec.stated (plain.increment place.spot (see place).tree) place.depth) }
+    ensures { IfOk result (λ h. see_head h ≡ spec.stated
+        (plain.increment place.spot (see place).tree) place.depth) }
 {
     let Sub { tree, spot, depth } = place;
     let place = tree.into_inner();
@@ -107,7 +113,8 @@ pub(crate) fn increment_over(alloc: Global, place: Sub) -> Result<Head, NoMemory
 /// A place with one less.
 #[tactic(auto, using(crate::specs::StmtViews::view_Decrement))]
 pub(crate) fn decrement_over(alloc: Global, place: Sub) -> Result<Head, NoMemory>
-    ensures { IfOk result (λ h. see_head h ≡ spec.stated (plain.decrement place.spot (see place).tree) place.depth) }
+    ensures { IfOk result (λ h. see_head h ≡ spec.stated
+        (plain.decrement place.spot (see place).tree) place.depth) }
 {
     let Sub { tree, spot, depth } = place;
     let place = tree.into_inner();
@@ -116,7 +123,8 @@ pub(crate) fn decrement_over(alloc: Global, place: Sub) -> Result<Head, NoMemory
 
 /// The places of a range, which may be defined there.
 pub(crate) fn range_over(places: Subs, define: bool) -> Result<Head, NoMemory>
-    ensures { IfOk result (λ h. see_head h ≡ spec.range_over (sized (plain.places (trees (map view places.items)) define) (suc places.depth))) }
+    ensures { IfOk result (λ h. see_head h ≡ spec.range_over
+        (sized (plain.places (trees (map view places.items)) define) (suc places.depth))) }
 {
     match deeper(places.depth) {
         Ok(depth) => Ok(Head::Range(Deep {

@@ -32,7 +32,8 @@ pub(crate) fn only(alloc: Global, first: Sub) -> Result<Subs, NoMemory>
 
 /// A list of these two.
 pub(crate) fn both(alloc: Global, first: Sub, second: Sub) -> Result<Subs, NoMemory>
-    ensures { IfOk result (λ l. see_all l ≡ add (only (see first).tree first.depth) (see second).tree second.depth) }
+    ensures { IfOk result (λ l. see_all l ≡ add (only (see first).tree first.depth)
+        (see second).tree second.depth) }
 {
     match only(alloc, first) {
         Ok(all) => all.add(second.tree, second.depth),
@@ -47,7 +48,8 @@ fn one_expr_more(
     header: bool,
     all: Subs,
 ) -> Result<Subs, ParseError>
-    ensures { Reads see_all (spec.one_expr_more budget header (see_all all) words.old) result words.new }
+    ensures { Reads see_all (spec.one_expr_more budget header (see_all all) words.old) result
+        words.new }
 {
     match expr_of_budget(alloc, words, budget, header) {
         Ok(next) => Ok(all.add(next.tree, next.depth)?),
@@ -63,7 +65,8 @@ pub(crate) fn exprs_from(
     header: bool,
     all: Subs,
 ) -> Result<Subs, ParseError>
-    ensures { Reads see_all (spec.exprs_from budget header (see_all all) words.old) result words.new }
+    ensures { Reads see_all (spec.exprs_from budget header (see_all all) words.old) result
+        words.new }
 {
     chain(
         words,

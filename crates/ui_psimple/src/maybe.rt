@@ -4,7 +4,8 @@ ghost use Rattle.ui_psimple.specs.Maybe.{OrNone};
 
 use ui_parse::{Cursor, ParseError};
 
-/// What was read from the start on, or none where the fault stands at the first word: nothing was taken then.
+/// What was read from the start on, or none where the fault stands at the first word: nothing was
+/// taken then.
 pub fn or_none<'a, T: Drop>(
     words: &mut Cursor<'a>,
     start: Cursor<'a>,

@@ -1,5 +1,5 @@
-//! Simple statements. Go specification, "Expression statements", "Assignment statements", "IncDec statements", "Short
-//! variable declarations", "For statements with range clause".
+//! Simple statements. Go specification, "Expression statements", "Assignment statements", "IncDec
+//! statements", "Short variable declarations", "For statements with range clause".
 
 ghost use Rattle.std.specs.Prelude.{◌≡◌, ◌∷◌, [], IfOk, map};
 ghost use Rattle.ui_syntax.specs.Types.{only};
@@ -101,8 +101,8 @@ fn only_name(alloc: Global, name: Placed) -> Result<Items<Placed>, NoMemory>
     }
 }
 
-/// Reads a simple statement whose expressions have so much room, in a header or elsewhere; in that of a `for` it may
-/// be the front of a range.
+/// Reads a simple statement whose expressions have so much room, in a header or elsewhere; in that
+/// of a `for` it may be the front of a range.
 #[derive(Clone, Copy)]
 struct SimpleReader {
     alloc: Global,
@@ -113,7 +113,8 @@ struct SimpleReader {
 
 impl SimpleReader {
     fn assigned(&self, words: &mut Cursor<'_>, spot: Spot, left: Subs) -> Result<Head, ParseError>
-        ensures { Reads see_head (spec.assigned self.now.room self.now.header self.now.ranged spot (see_all left) words.old) result words.new }
+        ensures { Reads see_head (spec.assigned self.now.room self.now.header self.now.ranged spot
+            (see_all left) words.old) result words.new }
     {
         match exprs(self.alloc, words, self.room, self.header) {
             Ok(right) => Ok(assign_over(self.alloc, spot, left, right)?),
@@ -129,7 +130,8 @@ impl SimpleReader {
         spot: Spot,
         left: Subs,
     ) -> Result<Head, ParseError>
-        ensures { Reads see_head (parts.behind_assign self.now.room self.now.header self.now.ranged spot (see_all left) words.old) result words.new }
+        ensures { Reads see_head (parts.behind_assign self.now.room self.now.header self.now.ranged
+            spot (see_all left) words.old) result words.new }
     {
         if self.ranged && words.take(TokenKind::Range).is_some() {
             return Ok(range_over(left, false)?);
@@ -143,7 +145,8 @@ impl SimpleReader {
         spot: Spot,
         names: Items<Placed>,
     ) -> Result<Head, ParseError>
-        ensures { Reads see_head (spec.defined self.now.room self.now.header self.now.ranged spot names words.old) result words.new }
+        ensures { Reads see_head (spec.defined self.now.room self.now.header self.now.ranged spot
+            names words.old) result words.new }
     {
         match exprs(self.alloc, words, self.room, self.header) {
             Ok(values) => Ok(define_over(self.alloc, spot, names, values)?),
@@ -160,7 +163,8 @@ impl SimpleReader {
         left: Subs,
         names: Items<Placed>,
     ) -> Result<Head, ParseError>
-        ensures { Reads see_head (parts.behind_define self.now.room self.now.header self.now.ranged spot (see_all left) names words.old) result words.new }
+        ensures { Reads see_head (parts.behind_define self.now.room self.now.header self.now.ranged
+            spot (see_all left) names words.old) result words.new }
     {
         if self.ranged && words.take(TokenKind::Range).is_some() {
             return Ok(range_over(left, true)?);
@@ -187,7 +191,8 @@ impl SimpleReader {
         left: Subs,
         names: Items<Placed>,
     ) -> Result<Head, ParseError>
-        ensures { Reads see_head (spec.defined_by self.now.room self.now.header self.now.ranged spot (see_all left) (Some names) words.old) result words.new }
+        ensures { Reads see_head (spec.defined_by self.now.room self.now.header self.now.ranged spot
+            (see_all left) (Some names) words.old) result words.new }
     {
         match words.take(TokenKind::Define) {
             Some(_) => self.behind_define(words, spot, left, names),
@@ -203,7 +208,8 @@ impl SimpleReader {
         spot: Spot,
         left: Subs,
     ) -> Result<Head, ParseError>
-        ensures { Reads see_head (spec.defined_by self.now.room self.now.header self.now.ranged spot (see_all left) None words.old) result words.new }
+        ensures { Reads see_head (spec.defined_by self.now.room self.now.header self.now.ranged spot
+            (see_all left) None words.old) result words.new }
     {
         if self.ranged && words.take(TokenKind::Define).is_some() {
             return self.range_defined(words, left);
@@ -213,7 +219,8 @@ impl SimpleReader {
 
     // ":=", behind several places.
     fn defined_by(&self, words: &mut Cursor<'_>, spot: Spot, left: Subs) -> Result<Head, ParseError>
-        ensures { Reads see_head (spec.defined_by self.now.room self.now.header self.now.ranged spot (see_all left) (spec.names_in (see_all left).items) words.old) result words.new }
+        ensures { Reads see_head (spec.defined_by self.now.room self.now.header self.now.ranged spot
+            (see_all left) (spec.names_in (see_all left).items) words.old) result words.new }
     {
         match names_in(self.alloc, left.items.as_slice()) {
             Ok(Some(names)) => self.names_defined(words, spot, left, names),
@@ -225,7 +232,8 @@ impl SimpleReader {
     // "=" or ":=", and what is behind.
     #[tactic(auto, unfolding(ui_parse::specs::Reader::take_by))]
     fn assignment(&self, words: &mut Cursor<'_>, spot: Spot, left: Subs) -> Result<Head, ParseError>
-        ensures { Reads see_head (spec.assignment self.now.room self.now.header self.now.ranged spot (see_all left) words.old) result words.new }
+        ensures { Reads see_head (spec.assignment self.now.room self.now.header self.now.ranged spot
+            (see_all left) words.old) result words.new }
     {
         match words.take(TokenKind::Assign) {
             Some(_) => self.behind_assign(words, spot, left),
@@ -234,7 +242,8 @@ impl SimpleReader {
     }
 
     fn op_assigned(&self, words: &mut Cursor<'_>, place: Sub, op: BinOp) -> Result<Head, ParseError>
-        ensures { Reads see_head (spec.op_assigned self.now.room self.now.header self.now.ranged (see place) op words.old) result words.new }
+        ensures { Reads see_head (spec.op_assigned self.now.room self.now.header self.now.ranged
+            (see place) op words.old) result words.new }
     {
         match expr_of_budget(self.alloc, words, self.room, self.header) {
             Ok(value) => Ok(op_assign_over(self.alloc, place, op, value)?),
@@ -244,7 +253,8 @@ impl SimpleReader {
 
     // Behind a first expression and a comma.
     fn behind_comma(&self, words: &mut Cursor<'_>, first: Sub) -> Result<Head, ParseError>
-        ensures { Reads see_head (parts.behind_comma self.now.room self.now.header self.now.ranged (see first) words.old) result words.new }
+        ensures { Reads see_head (parts.behind_comma self.now.room self.now.header self.now.ranged
+            (see first) words.old) result words.new }
     {
         let spot = first.spot;
         match expr_of_budget(self.alloc, words, self.room, self.header) {
@@ -264,7 +274,8 @@ impl SimpleReader {
         place: Sub,
         name: Placed,
     ) -> Result<Head, ParseError>
-        ensures { Reads see_head (parts.behind_define self.now.room self.now.header self.now.ranged place.spot (only (see place).tree place.depth) (name ∷ []) words.old) result words.new }
+        ensures { Reads see_head (parts.behind_define self.now.room self.now.header self.now.ranged
+            place.spot (only (see place).tree place.depth) (name ∷ []) words.old) result words.new }
     {
         let spot = place.spot;
         match only_name(self.alloc, name) {
@@ -279,7 +290,8 @@ impl SimpleReader {
     // ":=" behind one place that is a name, or the expression alone.
     #[tactic(auto, unfolding(ui_parse::specs::Reader::take_by))]
     fn name_or(&self, words: &mut Cursor<'_>, place: Sub, name: Placed) -> Result<Head, ParseError>
-        ensures { Reads see_head (spec.define_or self.now.room self.now.header self.now.ranged (see place) (Some (name ∷ [])) words.old) result words.new }
+        ensures { Reads see_head (spec.define_or self.now.room self.now.header self.now.ranged
+            (see place) (Some (name ∷ [])) words.old) result words.new }
     {
         match words.take(TokenKind::Define) {
             Some(_) => self.name_defined(words, place, name),
@@ -289,7 +301,8 @@ impl SimpleReader {
 
     // ":=" behind one place, or the expression alone.
     fn define_or(&self, words: &mut Cursor<'_>, place: Sub) -> Result<Head, ParseError>
-        ensures { Reads see_head (spec.define_or self.now.room self.now.header self.now.ranged (see place) (spec.names_in ((see place).tree ∷ [])) words.old) result words.new }
+        ensures { Reads see_head (spec.define_or self.now.room self.now.header self.now.ranged
+            (see place) (spec.names_in ((see place).tree ∷ [])) words.old) result words.new }
     {
         match name_in(self.alloc, place.tree.get()) {
             Ok(Some(name)) => self.name_or(words, place, name),
@@ -301,7 +314,8 @@ impl SimpleReader {
     // ":=" and `range` behind one place that is no name, or the expression alone.
     #[tactic(auto, unfolding(ui_parse::specs::Reader::take_by))]
     fn range_or(&self, words: &mut Cursor<'_>, place: Sub) -> Result<Head, ParseError>
-        ensures { Reads see_head (parts.range_or self.now.room self.now.header self.now.ranged (see place) words.old) result words.new }
+        ensures { Reads see_head (parts.range_or self.now.room self.now.header self.now.ranged
+            (see place) words.old) result words.new }
     {
         if self.ranged && words.take(TokenKind::Define).is_some() {
             let left = only(self.alloc, place)?;
@@ -313,7 +327,8 @@ impl SimpleReader {
     // "++", "--" or ":=", or the expression alone.
     #[tactic(auto, unfolding(ui_parse::specs::Reader::take_by))]
     fn stepped_or(&self, words: &mut Cursor<'_>, place: Sub) -> Result<Head, ParseError>
-        ensures { Reads see_head (parts.stepped_or self.now.room self.now.header self.now.ranged (see place) words.old) result words.new }
+        ensures { Reads see_head (parts.stepped_or self.now.room self.now.header self.now.ranged
+            (see place) words.old) result words.new }
     {
         if words.take(TokenKind::Inc).is_some() {
             return Ok(increment_over(self.alloc, place)?);
@@ -327,7 +342,8 @@ impl SimpleReader {
     // What follows a first expression that leaves room for a statement around it.
     #[tactic(auto, unfolding(ui_parse::specs::Reader::take_by))]
     fn behind_first(&self, words: &mut Cursor<'_>, first: Sub) -> Result<Head, ParseError>
-        ensures { Reads see_head (spec.behind_first self.now.room self.now.header self.now.ranged (see first) words.old) result words.new }
+        ensures { Reads see_head (spec.behind_first self.now.room self.now.header self.now.ranged
+            (see first) words.old) result words.new }
     {
         if words.take(TokenKind::Comma).is_some() {
             return self.behind_comma(words, first);
@@ -345,7 +361,8 @@ impl SimpleReader {
 
     #[tactic(auto, unfolding(ui_stmts::specs::Simple::head_behind))]
     fn head_behind(&self, words: &mut Cursor<'_>, first: Sub) -> Result<Head, ParseError>
-        ensures { Reads see_head (spec.head_behind self.now.room self.now.header self.now.ranged (see first) words.old) result words.new }
+        ensures { Reads see_head (spec.head_behind self.now.room self.now.header self.now.ranged
+            (see first) words.old) result words.new }
     {
         if first.depth > self.room {
             return Ok(Head::Expression(first));

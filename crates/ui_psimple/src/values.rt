@@ -46,7 +46,8 @@ fn untyped(names: Items<Placed>, values: Option<Subs>) -> Deep<ValueSpec>
 }
 
 fn typed(names: Items<Placed>, of: TypeSub, values: Option<Subs>) -> Deep<ValueSpec>
-    ensures { see_deep value_view result ≡ spec.value_of names (Some (see_type of)) (see_values values) }
+    ensures { see_deep value_view result ≡ spec.value_of names (Some (see_type of))
+        (see_values values) }
 {
     match values {
         None => Deep {
@@ -85,7 +86,8 @@ fn values(
     names: Items<Placed>,
     of: Option<TypeSub>,
 ) -> Result<Deep<ValueSpec>, ParseError>
-    ensures { Reads (see_deep value_view) (spec.values budget names (see_maybe of) words.old) result words.new }
+    ensures { Reads (see_deep value_view) (spec.values budget names (see_maybe of) words.old) result
+        words.new }
 {
     match exprs(alloc, words, budget, false) {
         Ok(values) => Ok(value_of(names, of, Some(values))),
@@ -101,7 +103,8 @@ fn typed_constant(
     names: Items<Placed>,
     of: TypeSub,
 ) -> Result<Deep<ValueSpec>, ParseError>
-    ensures { Reads (see_deep value_view) (spec.constant_behind budget names (Some (see_type of)) words.old) result words.new }
+    ensures { Reads (see_deep value_view) (spec.constant_behind budget names
+        (Some (see_type of)) words.old) result words.new }
 {
     match words.expect(TokenKind::Assign) {
         Ok(_) => values(alloc, words, budget, names, Some(of)),
@@ -116,7 +119,8 @@ fn constant_behind(
     budget: u32,
     names: Items<Placed>,
 ) -> Result<Deep<ValueSpec>, ParseError>
-    ensures { Reads (see_deep value_view) (untaken_constant budget names words.old) result words.new }
+    ensures { Reads (see_deep value_view) (untaken_constant budget names words.old) result
+        words.new }
 {
     match maybe_type(alloc, words, budget, TypeSite::Plain) {
         Ok(Some(of)) => typed_constant(alloc, words, budget, names, of),
@@ -230,7 +234,8 @@ pub fn constant_decl(
     budget: u32,
     spot: Spot,
 ) -> Result<Deep<CommonTree>, ParseError>
-    ensures { Reads (see_deep common_view) (spec.constant_decl budget spot words.old) result words.new }
+    ensures { Reads (see_deep common_view) (spec.constant_decl budget spot words.old) result
+        words.new }
 {
     let specs = one_or_several(alloc, words, &Constants { alloc, budget })?;
     Ok(Deep {
@@ -250,7 +255,8 @@ pub fn variable_decl(
     budget: u32,
     spot: Spot,
 ) -> Result<Deep<CommonTree>, ParseError>
-    ensures { Reads (see_deep common_view) (spec.variable_decl budget spot words.old) result words.new }
+    ensures { Reads (see_deep common_view) (spec.variable_decl budget spot words.old) result
+        words.new }
 {
     let specs = one_or_several(alloc, words, &Variables { alloc, budget })?;
     Ok(Deep {

@@ -66,7 +66,9 @@ where
     // Behind a statement with words: a semicolon, which may be left out before the brace.
     #[tactic(auto, unfolding(ui_parse::specs::Reader::take_by))]
     fn behind_words(&self, words: &mut Cursor<'_>, all: StmtSubs) -> Result<BodyTurn, ParseError>
-        ensures { Reads (see_body_turn self.now.room (stmt_readers self.now.room)) (turns.behind_words self.now.room (stmt_readers self.now.room) (see_stmts all) words.old) result words.new }
+        ensures { Reads (see_body_turn self.now.room (stmt_readers self.now.room))
+            (turns.behind_words self.now.room (stmt_readers self.now.room)
+            (see_stmts all) words.old) result words.new }
     {
         if words.take(TokenKind::Semi).is_some() {
             return Ok(BodyTurn::More(all));
@@ -85,7 +87,9 @@ where
         all: StmtSubs,
         stmt: Option<StmtSub>,
     ) -> Result<BodyTurn, ParseError>
-        ensures { Reads (see_body_turn self.now.room (stmt_readers self.now.room)) (turns.behind_stmt self.now.room (stmt_readers self.now.room) (see_stmts all) (option_map see_stmt stmt) words.old) result words.new }
+        ensures { Reads (see_body_turn self.now.room (stmt_readers self.now.room))
+            (turns.behind_stmt self.now.room (stmt_readers self.now.room) (see_stmts all)
+            (option_map see_stmt stmt) words.old) result words.new }
     {
         if let Some(stmt) = stmt {
             return match add_stmt(all, stmt) {
@@ -106,7 +110,9 @@ where
     #[tactic(auto, unfolding(ui_parse::specs::Reader::take_by))]
     fn body_turn(&self, words: &mut Cursor<'_>, all: StmtSubs) -> Result<BodyTurn, ParseError>
         requires { Nests self.now.room (F.pre self.now.nested) (F.post self.now.nested) }
-        ensures { Reads (see_body_turn self.now.room (stmt_readers self.now.room)) (turns.body_turn self.now.room (stmt_readers self.now.room) (see_stmts all) words.old) result words.new }
+        ensures { Reads (see_body_turn self.now.room (stmt_readers self.now.room))
+            (turns.body_turn self.now.room (stmt_readers self.now.room) (see_stmts all) words.old)
+            result words.new }
     {
         if let Some(close) = words.take(TokenKind::RBrace) {
             return Ok(BodyTurn::Closed { all, close });
@@ -123,7 +129,8 @@ where
     /// Statements behind the brace at the spot, up to the closing one.
     pub(crate) fn body(&self, words: &mut Cursor<'_>, spot: Spot) -> Result<BlockSub, ParseError>
         requires { Nests self.now.room (F.pre self.now.nested) (F.post self.now.nested) }
-        ensures { Reads see_block (spec.body self.now.room (stmt_readers self.now.room) spot words.old) result words.new }
+        ensures { Reads see_block (spec.body self.now.room
+            (stmt_readers self.now.room) spot words.old) result words.new }
     {
         let mut all: StmtSubs = Deep::empty(self.alloc);
         // Each turn takes a word.
@@ -145,7 +152,8 @@ where
     #[tactic(auto, unfolding(ui_stmts::specs::Stmts::a_body))]
     pub(crate) fn a_body(&self, words: &mut Cursor<'_>) -> Result<BlockSub, ParseError>
         requires { Nests self.now.room (F.pre self.now.nested) (F.post self.now.nested) }
-        ensures { Reads see_block (spec.a_body self.now.room (stmt_readers self.now.room) words.old) result words.new }
+        ensures { Reads see_block (spec.a_body self.now.room (stmt_readers self.now.room) words.old)
+            result words.new }
     {
         let spot = words.expect(TokenKind::LBrace)?;
         self.body(words, spot)
@@ -159,7 +167,8 @@ where
         spot: Spot,
     ) -> Result<StmtSub, ParseError>
         requires { Nests self.now.room (F.pre self.now.nested) (F.post self.now.nested) }
-        ensures { Reads see_stmt (spec.block_stmt self.now.room (stmt_readers self.now.room) spot words.old) result words.new }
+        ensures { Reads see_stmt (spec.block_stmt self.now.room
+            (stmt_readers self.now.room) spot words.old) result words.new }
     {
         match self.body(words, spot) {
             Ok(body) => Ok(block_over(self.alloc, body)?),

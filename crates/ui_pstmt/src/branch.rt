@@ -43,7 +43,11 @@ fn branch_over(
     otherwise: Option<Boxed<StmtTree>>,
     depth: u32,
 ) -> Result<StmtSub, NoMemory>
-    ensures { IfOk result (λ s. see_stmt s ≡ sized (plain.branch branch.spot (maybe_stmt (option_map stmt_view branch.init.of)) (see branch.condition).tree (see_block branch.body).of (maybe_stmt (option_map stmt_view otherwise))) (suc (max (max branch.init.depth branch.condition.depth) (max branch.body.depth depth)))) }
+    ensures { IfOk result (λ s. see_stmt s ≡ sized
+        (plain.branch branch.spot (maybe_stmt (option_map stmt_view branch.init.of))
+        (see branch.condition).tree (see_block branch.body).of
+        (maybe_stmt (option_map stmt_view otherwise)))
+        (suc (max (max branch.init.depth branch.condition.depth) (max branch.body.depth depth)))) }
 {
     let Branch {
         spot,
@@ -75,7 +79,10 @@ where
         begun: Begun,
     ) -> Result<StmtSub, ParseError>
         requires { Nests self.now.room (F.pre self.now.nested) (F.post self.now.nested) }
-        ensures { Reads see_stmt (parts.other_of self.now.room (stmt_readers self.now.room) begun branch.spot (see_init self.now.room (stmt_readers self.now.room) branch.init) (see branch.condition) (see_block branch.body) words.old) result words.new }
+        ensures { Reads see_stmt (parts.other_of self.now.room
+            (stmt_readers self.now.room) begun branch.spot
+            (see_init self.now.room (stmt_readers self.now.room) branch.init) (see branch.condition)
+            (see_block branch.body) words.old) result words.new }
     {
         match self.inner(words, begun) {
             Ok(other) => Ok(branch_over(self.alloc, branch, Some(other.of), other.depth)?),
@@ -86,7 +93,10 @@ where
     // A block behind `else`.
     fn other_block(&self, words: &mut Cursor<'_>, branch: Branch) -> Result<StmtSub, ParseError>
         requires { Nests self.now.room (F.pre self.now.nested) (F.post self.now.nested) }
-        ensures { Reads see_stmt (parts.other_block self.now.room (stmt_readers self.now.room) branch.spot (see_init self.now.room (stmt_readers self.now.room) branch.init) (see branch.condition) (see_block branch.body) words.old) result words.new }
+        ensures { Reads see_stmt (parts.other_block self.now.room
+            (stmt_readers self.now.room) branch.spot
+            (see_init self.now.room (stmt_readers self.now.room) branch.init) (see branch.condition)
+            (see_block branch.body) words.old) result words.new }
     {
         match words.expect(TokenKind::LBrace) {
             Ok(spot) => self.other_of(words, branch, Begun::Brace(spot)),
@@ -98,7 +108,10 @@ where
     #[tactic(auto, unfolding(ui_parse::specs::Reader::take_by))]
     fn other_branch(&self, words: &mut Cursor<'_>, branch: Branch) -> Result<StmtSub, ParseError>
         requires { Nests self.now.room (F.pre self.now.nested) (F.post self.now.nested) }
-        ensures { Reads see_stmt (parts.other_branch self.now.room (stmt_readers self.now.room) branch.spot (see_init self.now.room (stmt_readers self.now.room) branch.init) (see branch.condition) (see_block branch.body) words.old) result words.new }
+        ensures { Reads see_stmt (parts.other_branch self.now.room
+            (stmt_readers self.now.room) branch.spot
+            (see_init self.now.room (stmt_readers self.now.room) branch.init) (see branch.condition)
+            (see_block branch.body) words.old) result words.new }
     {
         if self.room < 2 {
             return self.other_block(words, branch);
@@ -113,7 +126,10 @@ where
     #[tactic(auto, unfolding(ui_parse::specs::Reader::take_by))]
     fn behind_body(&self, words: &mut Cursor<'_>, branch: Branch) -> Result<StmtSub, ParseError>
         requires { Nests self.now.room (F.pre self.now.nested) (F.post self.now.nested) }
-        ensures { Reads see_stmt (parts.behind_body self.now.room (stmt_readers self.now.room) branch.spot (see_init self.now.room (stmt_readers self.now.room) branch.init) (see branch.condition) (see_block branch.body) words.old) result words.new }
+        ensures { Reads see_stmt (parts.behind_body self.now.room
+            (stmt_readers self.now.room) branch.spot
+            (see_init self.now.room (stmt_readers self.now.room) branch.init) (see branch.condition)
+            (see_block branch.body) words.old) result words.new }
     {
         match words.take(TokenKind::Else) {
             Some(_) => self.other_branch(words, branch),
@@ -130,7 +146,9 @@ where
         condition: Sub,
     ) -> Result<StmtSub, ParseError>
         requires { Nests self.now.room (F.pre self.now.nested) (F.post self.now.nested) }
-        ensures { Reads see_stmt (spec.branches self.now.room (stmt_readers self.now.room) spot (see_init self.now.room (stmt_readers self.now.room) init) (see condition) words.old) result words.new }
+        ensures { Reads see_stmt (spec.branches self.now.room (stmt_readers self.now.room) spot
+            (see_init self.now.room (stmt_readers self.now.room) init) (see condition) words.old)
+            result words.new }
     {
         match self.a_body(words) {
             Ok(body) => {
@@ -153,7 +171,8 @@ where
         init: Init,
     ) -> Result<StmtSub, ParseError>
         requires { Nests self.now.room (F.pre self.now.nested) (F.post self.now.nested) }
-        ensures { Reads see_stmt (spec.condition self.now.room (stmt_readers self.now.room) spot (see_init self.now.room (stmt_readers self.now.room) init) words.old) result words.new }
+        ensures { Reads see_stmt (spec.condition self.now.room (stmt_readers self.now.room) spot
+            (see_init self.now.room (stmt_readers self.now.room) init) words.old) result words.new }
     {
         match expr_of_budget(self.alloc, words, self.room, true) {
             Ok(condition) => self.branches(words, spot, init, condition),
@@ -165,7 +184,8 @@ where
     #[tactic(auto, unfolding(ui_parse::specs::Reader::take_by))]
     fn branch_on(&self, words: &mut Cursor<'_>, spot: Spot, of: Sub) -> Result<StmtSub, ParseError>
         requires { Nests self.now.room (F.pre self.now.nested) (F.post self.now.nested) }
-        ensures { Reads see_stmt (parts.branch_on self.now.room (stmt_readers self.now.room) spot (see of) words.old) result words.new }
+        ensures { Reads see_stmt (parts.branch_on self.now.room (stmt_readers self.now.room) spot
+            (see of) words.old) result words.new }
     {
         if of.depth < self.room && words.take(TokenKind::Semi).is_some() {
             return match self.alone_init(of) {
@@ -184,7 +204,8 @@ where
         head: Head,
     ) -> Result<StmtSub, ParseError>
         requires { Nests self.now.room (F.pre self.now.nested) (F.post self.now.nested) }
-        ensures { Reads see_stmt (spec.branch_behind self.now.room (stmt_readers self.now.room) spot (see_head head) words.old) result words.new }
+        ensures { Reads see_stmt (spec.branch_behind self.now.room (stmt_readers self.now.room) spot
+            (see_head head) words.old) result words.new }
     {
         match head {
             Head::Expression(of) => self.branch_on(words, spot, of),
@@ -204,7 +225,8 @@ where
         spot: Spot,
     ) -> Result<StmtSub, ParseError>
         requires { Nests self.now.room (F.pre self.now.nested) (F.post self.now.nested) }
-        ensures { Reads see_stmt (spec.branch_stmt self.now.room (stmt_readers self.now.room) spot words.old) result words.new }
+        ensures { Reads see_stmt (spec.branch_stmt self.now.room
+            (stmt_readers self.now.room) spot words.old) result words.new }
     {
         if words.take(TokenKind::Semi).is_some() {
             return match self.empty_init() {

@@ -38,7 +38,8 @@ fn with_last(
     closed: Items<Clause<StmtTree>>,
     last: Option<Clause<StmtTree>>,
 ) -> Result<Items<Clause<StmtTree>>, NoMemory>
-    ensures { IfOk result (λ all. map see_open all ≡ spec.with_open (map see_open closed) (option_map see_open last)) }
+    ensures { IfOk result (λ all. map see_open all
+        ≡ spec.with_open (map see_open closed) (option_map see_open last)) }
 {
     let mut closed = closed;
     match last {
@@ -55,7 +56,8 @@ fn into_last(
     last: Option<Clause<StmtTree>>,
     stmt: StmtTree,
 ) -> Result<Option<Clause<StmtTree>>, NoMemory>
-    ensures { IfOk result (λ c. option_map see_open c ≡ spec.into_open (option_map see_open last) (stmt_view stmt)) }
+    ensures { IfOk result (λ c. option_map see_open c ≡ spec.into_open (option_map see_open last)
+        (stmt_view stmt)) }
 {
     match last {
         Some(
@@ -101,7 +103,8 @@ impl Clauses {
         values: Option<Items<ExprTree>>,
         depth: u32,
     ) -> Result<Clauses, NoMemory>
-        ensures { IfOk result (λ b. see_clauses b ≡ spec.open_clause (see_clauses self) spot (maybe_trees values) depth) }
+        ensures { IfOk result (λ b. see_clauses b ≡ spec.open_clause (see_clauses self) spot
+            (maybe_trees values) depth) }
     {
         let Clauses {
             closed,
@@ -123,7 +126,8 @@ impl Clauses {
     }
 
     fn add_stmt(self, stmt: StmtSub) -> Result<Clauses, NoMemory>
-        ensures { IfOk result (λ b. see_clauses b ≡ turns.added_in (see_clauses self) (see_stmt stmt)) }
+        ensures { IfOk result (λ b. see_clauses b
+            ≡ turns.added_in (see_clauses self) (see_stmt stmt)) }
     {
         let Clauses {
             closed,
@@ -143,7 +147,8 @@ impl Clauses {
 
     // One more statement without words.
     fn add_empty(self, alloc: Global) -> Result<Clauses, NoMemory>
-        ensures { IfOk result (λ b. see_clauses b ≡ turns.added_in (see_clauses self) no_statement) }
+        ensures { IfOk result (λ b. see_clauses b
+            ≡ turns.added_in (see_clauses self) no_statement) }
     {
         match empty_stmt(alloc) {
             Ok(empty) => self.add_stmt(empty),
@@ -171,7 +176,8 @@ impl Clauses {
 // Behind a statement with words: a semicolon, which may be left out before the brace.
 #[tactic(auto, unfolding(ui_parse::specs::Reader::take_by))]
 fn behind_words(words: &mut Cursor<'_>, clauses: Clauses) -> Result<Turn<Clauses>, ParseError>
-    ensures { Reads see_clause_turn (turns.behind_clause_words (see_clauses clauses) words.old) result words.new }
+    ensures { Reads see_clause_turn (turns.behind_clause_words (see_clauses clauses) words.old)
+        result words.new }
 {
     if words.take(TokenKind::Semi).is_some() {
         return Ok(Turn::More(clauses));
@@ -189,7 +195,8 @@ fn opened_default(
     clauses: Clauses,
     spot: Spot,
 ) -> Result<Turn<Clauses>, ParseError>
-    ensures { Reads see_clause_turn (turns.default_opened (see_clauses clauses) spot words.old) result words.new }
+    ensures { Reads see_clause_turn (turns.default_opened (see_clauses clauses) spot words.old)
+        result words.new }
 {
     match words.expect(TokenKind::Colon) {
         Ok(_) => match clauses.open_clause(alloc, spot, None, 0) {
@@ -208,7 +215,8 @@ fn opened_values(
     spot: Spot,
     values: Subs,
 ) -> Result<Turn<Clauses>, ParseError>
-    ensures { Reads see_clause_turn (turns.values_opened (see_clauses clauses) spot (see_all values) words.old) result words.new }
+    ensures { Reads see_clause_turn (turns.values_opened (see_clauses clauses) spot
+        (see_all values) words.old) result words.new }
 {
     match words.expect(TokenKind::Colon) {
         Ok(_) => match clauses.open_clause(alloc, spot, Some(values.items), values.depth) {
@@ -227,7 +235,8 @@ fn opened_case(
     clauses: Clauses,
     spot: Spot,
 ) -> Result<Turn<Clauses>, ParseError>
-    ensures { Reads see_clause_turn (turns.case_opened room (see_clauses clauses) spot words.old) result words.new }
+    ensures { Reads see_clause_turn (turns.case_opened room (see_clauses clauses) spot words.old)
+        result words.new }
 {
     match exprs(alloc, words, room, false) {
         Ok(values) => opened_values(alloc, words, clauses, spot, values),
@@ -247,7 +256,9 @@ where
         clauses: Clauses,
         stmt: Option<StmtSub>,
     ) -> Result<Turn<Clauses>, ParseError>
-        ensures { Reads see_clause_turn (turns.behind_clause_stmt self.now.room (stmt_readers self.now.room) (see_clauses clauses) (option_map see_stmt stmt) words.old) result words.new }
+        ensures { Reads see_clause_turn (turns.behind_clause_stmt self.now.room
+            (stmt_readers self.now.room) (see_clauses clauses) (option_map see_stmt stmt) words.old)
+            result words.new }
     {
         if let Some(stmt) = stmt {
             return match clauses.add_stmt(stmt) {
@@ -272,7 +283,8 @@ where
         clauses: Clauses,
     ) -> Result<Turn<Clauses>, ParseError>
         requires { Nests self.now.room (F.pre self.now.nested) (F.post self.now.nested) }
-        ensures { Reads see_clause_turn (turns.stmt_part self.now.room (stmt_readers self.now.room) (see_clauses clauses) words.old) result words.new }
+        ensures { Reads see_clause_turn (turns.stmt_part self.now.room (stmt_readers self.now.room)
+            (see_clauses clauses) words.old) result words.new }
     {
         if !clauses.is_open() || self.room == 0 {
             return Err(ParseError::Fault);
@@ -291,7 +303,8 @@ where
         clauses: Clauses,
     ) -> Result<Turn<Clauses>, ParseError>
         requires { Nests self.now.room (F.pre self.now.nested) (F.post self.now.nested) }
-        ensures { Reads see_clause_turn (turns.default_part self.now.room (stmt_readers self.now.room) (see_clauses clauses) words.old) result words.new }
+        ensures { Reads see_clause_turn (turns.default_part self.now.room
+            (stmt_readers self.now.room) (see_clauses clauses) words.old) result words.new }
     {
         match words.take(TokenKind::Default) {
             Some(spot) => opened_default(self.alloc, words, clauses, spot),
@@ -307,7 +320,8 @@ where
         clauses: Clauses,
     ) -> Result<Turn<Clauses>, ParseError>
         requires { Nests self.now.room (F.pre self.now.nested) (F.post self.now.nested) }
-        ensures { Reads see_clause_turn (turns.case_part self.now.room (stmt_readers self.now.room) (see_clauses clauses) words.old) result words.new }
+        ensures { Reads see_clause_turn (turns.case_part self.now.room (stmt_readers self.now.room)
+            (see_clauses clauses) words.old) result words.new }
     {
         if self.room == 0 {
             return self.default_clause(words, clauses);
@@ -326,7 +340,8 @@ where
         clauses: Clauses,
     ) -> Result<Turn<Clauses>, ParseError>
         requires { Nests self.now.room (F.pre self.now.nested) (F.post self.now.nested) }
-        ensures { Reads see_clause_turn (turns.clause_turn self.now.room (stmt_readers self.now.room) (see_clauses clauses) words.old) result words.new }
+        ensures { Reads see_clause_turn (turns.clause_turn self.now.room
+            (stmt_readers self.now.room) (see_clauses clauses) words.old) result words.new }
     {
         match words.take(TokenKind::RBrace) {
             Some(_) => Ok(Turn::Done(clauses)),
@@ -337,7 +352,8 @@ where
     // Clauses, up to the closing brace.
     fn all_clauses(&self, words: &mut Cursor<'_>) -> Result<Clauses, ParseError>
         requires { Nests self.now.room (F.pre self.now.nested) (F.post self.now.nested) }
-        ensures { Reads see_clauses (turns.all_clauses self.now.room (stmt_readers self.now.room) words.old) result words.new }
+        ensures { Reads see_clauses (turns.all_clauses self.now.room
+            (stmt_readers self.now.room) words.old) result words.new }
     {
         let mut clauses = Clauses::new(self.alloc);
         // Each turn takes a word.
@@ -359,7 +375,8 @@ where
     #[tactic(auto, unfolding(ui_stmts::specs::Stmts::clauses))]
     pub(crate) fn clauses(&self, words: &mut Cursor<'_>) -> Result<ClauseList, ParseError>
         requires { Nests self.now.room (F.pre self.now.nested) (F.post self.now.nested) }
-        ensures { Reads see_clause_list (spec.clauses self.now.room (stmt_readers self.now.room) words.old) result words.new }
+        ensures { Reads see_clause_list (spec.clauses self.now.room
+            (stmt_readers self.now.room) words.old) result words.new }
     {
         match self.all_clauses(words) {
             Ok(clauses) => Ok(clauses.into_list()?),

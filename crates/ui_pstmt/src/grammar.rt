@@ -40,7 +40,8 @@ where
     /// A statement with one level less.
     pub(crate) fn inner(&self, words: &mut Cursor<'_>, begun: Begun) -> Result<StmtSub, ParseError>
         requires { Nests self.now.room (F.pre self.now.nested) (F.post self.now.nested) }
-        ensures { Reads see_stmt (stmt_in (stmt_readers self.now.room) begun words.old) result words.new }
+        ensures { Reads see_stmt (stmt_in (stmt_readers self.now.room) begun words.old) result
+            words.new }
     {
         (self.nested)(self.alloc, words, self.room, begun)
     }
@@ -48,7 +49,8 @@ where
     /// A statement with words and with one level less, or none.
     pub(crate) fn maybe_inner(&self, words: &mut Cursor<'_>) -> Result<Option<StmtSub>, ParseError>
         requires { Nests self.now.room (F.pre self.now.nested) (F.post self.now.nested) }
-        ensures { Reads (option_map see_stmt) (maybe (stmt_readers self.now.room).stmt words.old) result words.new }
+        ensures { Reads (option_map see_stmt) (maybe (stmt_readers self.now.room).stmt words.old)
+            result words.new }
     {
         let start = words.fork();
         let read = self.inner(words, Begun::Nothing);

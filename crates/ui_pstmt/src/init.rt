@@ -1,4 +1,5 @@
-//! What stands before the condition or the value of a header. Go specification, "If statements", "Switch statements".
+//! What stands before the condition or the value of a header. Go specification, "If statements",
+//! "Switch statements".
 
 ghost use Rattle.std.specs.Prelude.{◌≡◌, IfOk};
 ghost use Rattle.ui_ptype.specs.Seen.{see};
@@ -24,14 +25,16 @@ where
 {
     /// Nothing.
     pub(crate) fn no_init(&self) -> Init
-        ensures { see_init self.now.room (stmt_readers self.now.room) result ≡ spec.no_init self.now.room (stmt_readers self.now.room) }
+        ensures { see_init self.now.room (stmt_readers self.now.room) result
+            ≡ spec.no_init self.now.room (stmt_readers self.now.room) }
     {
         Deep { of: None, depth: 0 }
     }
 
     /// A semicolon alone.
     pub(crate) fn empty_init(&self) -> Result<Init, NoMemory>
-        ensures { IfOk result (λ i. see_init self.now.room (stmt_readers self.now.room) i ≡ spec.empty_init self.now.room (stmt_readers self.now.room)) }
+        ensures { IfOk result (λ i. see_init self.now.room (stmt_readers self.now.room) i
+            ≡ spec.empty_init self.now.room (stmt_readers self.now.room)) }
     {
         match empty_stmt(self.alloc) {
             Ok(stmt) => Ok(self.init_of(stmt)),
@@ -41,7 +44,8 @@ where
 
     /// A statement.
     pub(crate) fn init_of(&self, stmt: StmtSub) -> Init
-        ensures { see_init self.now.room (stmt_readers self.now.room) result ≡ spec.init_of self.now.room (stmt_readers self.now.room) (see_stmt stmt) }
+        ensures { see_init self.now.room (stmt_readers self.now.room) result
+            ≡ spec.init_of self.now.room (stmt_readers self.now.room) (see_stmt stmt) }
     {
         Deep {
             of: Some(stmt.of),
@@ -51,7 +55,8 @@ where
 
     /// An expression.
     pub(crate) fn alone_init(&self, of: Sub) -> Result<Init, NoMemory>
-        ensures { IfOk result (λ i. see_init self.now.room (stmt_readers self.now.room) i ≡ spec.alone_init self.now.room (stmt_readers self.now.room) (see of)) }
+        ensures { IfOk result (λ i. see_init self.now.room (stmt_readers self.now.room) i
+            ≡ spec.alone_init self.now.room (stmt_readers self.now.room) (see of)) }
     {
         match alone(self.alloc, of) {
             Ok(stmt) => Ok(self.init_of(stmt)),

@@ -36,7 +36,8 @@ pub fn stmt(
 
 /// Statements in braces, each within the budget.
 pub fn block(alloc: Global, words: &mut Cursor<'_>, budget: u32) -> Result<BlockSub, ParseError>
-    ensures { Reads see_block (spec.a_body budget (stmt_readers budget) words.old) result words.new }
+    ensures { Reads see_block (spec.a_body budget (stmt_readers budget) words.old) result
+        words.new }
 {
     Statements {
         alloc,

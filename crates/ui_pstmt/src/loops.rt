@@ -49,7 +49,10 @@ fn counting_over(
     post: StmtSub,
     body: BlockSub,
 ) -> Result<StmtSub, NoMemory>
-    ensures { IfOk result (λ s. see_stmt s ≡ sized (plain.counting spot (see_stmt init).of (maybe_view condition.of) (see_stmt post).of (see_block body).of) (suc (max (max init.depth condition.depth) (max post.depth body.depth)))) }
+    ensures { IfOk result (λ s. see_stmt s ≡ sized
+        (plain.counting spot (see_stmt init).of (maybe_view condition.of) (see_stmt post).of
+        (see_block body).of) (suc (max (max init.depth condition.depth)
+        (max post.depth body.depth)))) }
 {
     let header = init.depth.max(condition.depth);
     let depth = header.max(post.depth.max(body.depth));
@@ -71,7 +74,9 @@ fn range_over(
     over: Sub,
     body: BlockSub,
 ) -> Result<StmtSub, NoMemory>
-    ensures { IfOk result (λ s. see_stmt s ≡ sized (plain.ranging spot (see_deep places_view places).of (see over).tree (see_block body).of) (suc (max (max places.depth over.depth) body.depth))) }
+    ensures { IfOk result (λ s. see_stmt s ≡ sized
+        (plain.ranging spot (see_deep places_view places).of (see over).tree (see_block body).of)
+        (suc (max (max places.depth over.depth) body.depth))) }
 {
     let header = places.depth.max(over.depth);
     let depth = header.max(body.depth);
@@ -91,7 +96,9 @@ fn while_over(
     condition: Sub,
     body: BlockSub,
 ) -> Result<StmtSub, NoMemory>
-    ensures { IfOk result (λ s. see_stmt s ≡ sized (plain.while_true spot (see condition).tree (see_block body).of) (suc (max condition.depth body.depth))) }
+    ensures { IfOk result (λ s. see_stmt s ≡ sized
+        (plain.while_true spot (see condition).tree (see_block body).of)
+        (suc (max condition.depth body.depth))) }
 {
     let depth = condition.depth.max(body.depth);
     let tree = StmtTree::While {
@@ -104,7 +111,8 @@ fn while_over(
 
 #[tactic(auto, using(ui_psimple::specs::StmtViews::view_Loop))]
 fn loop_over(alloc: Global, spot: Spot, body: BlockSub) -> Result<StmtSub, NoMemory>
-    ensures { IfOk result (λ s. see_stmt s ≡ sized (plain.loop spot (see_block body).of) (suc body.depth)) }
+    ensures { IfOk result (λ s. see_stmt s ≡ sized (plain.loop spot (see_block body).of)
+        (suc body.depth)) }
 {
     let depth = body.depth;
     let tree = StmtTree::Loop {
@@ -120,8 +128,10 @@ where
 {
     /// The tree of an expression, with its depth, or none.
     pub(crate) fn tree_of(&self, of: Option<Sub>) -> Deep<Option<ExprTree>>
-        ensures tree { maybe_view result.of ≡ spec.maybe_tree self.now.room (stmt_readers self.now.room) (option_map see of) }
-        ensures depth { result.depth ≡ spec.tree_depth self.now.room (stmt_readers self.now.room) (option_map see of) }
+        ensures tree { maybe_view result.of ≡ spec.maybe_tree self.now.room
+            (stmt_readers self.now.room) (option_map see of) }
+        ensures depth { result.depth ≡ spec.tree_depth self.now.room (stmt_readers self.now.room)
+            (option_map see of) }
     {
         match of {
             Some(of) => Deep {
@@ -133,7 +143,8 @@ where
     }
 
     fn or_empty(&self, stmt: Option<StmtSub>) -> Result<StmtSub, NoMemory>
-        ensures { IfOk result (λ s. see_stmt s ≡ spec.or_empty self.now.room (stmt_readers self.now.room) (option_map see_stmt stmt)) }
+        ensures { IfOk result (λ s. see_stmt s
+            ≡ spec.or_empty self.now.room (stmt_readers self.now.room) (option_map see_stmt stmt)) }
     {
         match stmt {
             Some(stmt) => Ok(stmt),
@@ -149,7 +160,10 @@ where
         post: Option<StmtSub>,
         body: BlockSub,
     ) -> Result<StmtSub, NoMemory>
-        ensures { IfOk result (λ s. see_stmt s ≡ spec.counting_of self.now.room (stmt_readers self.now.room) spot (see_stmt init) (option_map see condition) (spec.or_empty self.now.room (stmt_readers self.now.room) (option_map see_stmt post)) (see_block body)) }
+        ensures { IfOk result (λ s. see_stmt s
+            ≡ spec.counting_of self.now.room (stmt_readers self.now.room) spot (see_stmt init)
+            (option_map see condition) (spec.or_empty self.now.room (stmt_readers self.now.room)
+            (option_map see_stmt post)) (see_block body)) }
     {
         match self.or_empty(post) {
             Ok(post) => {
@@ -170,7 +184,9 @@ where
         post: Option<StmtSub>,
     ) -> Result<StmtSub, ParseError>
         requires { Nests self.now.room (F.pre self.now.nested) (F.post self.now.nested) }
-        ensures { Reads see_stmt (parts.counted_body self.now.room (stmt_readers self.now.room) spot (see_stmt init) (option_map see condition) (option_map see_stmt post) words.old) result words.new }
+        ensures { Reads see_stmt (parts.counted_body self.now.room (stmt_readers self.now.room) spot
+            (see_stmt init) (option_map see condition) (option_map see_stmt post) words.old) result
+            words.new }
     {
         match self.a_body(words) {
             Ok(body) => Ok(self.counting_of(spot, init, condition, post, body)?),
@@ -187,7 +203,8 @@ where
         condition: Option<Sub>,
     ) -> Result<StmtSub, ParseError>
         requires { Nests self.now.room (F.pre self.now.nested) (F.post self.now.nested) }
-        ensures { Reads see_stmt (parts.counted_on self.now.room (stmt_readers self.now.room) spot (see_stmt init) (option_map see condition) words.old) result words.new }
+        ensures { Reads see_stmt (parts.counted_on self.now.room (stmt_readers self.now.room) spot
+            (see_stmt init) (option_map see condition) words.old) result words.new }
     {
         match words.expect(TokenKind::Semi) {
             Ok(_) => match maybe_simple(self.alloc, words, self.room) {
@@ -207,7 +224,8 @@ where
         init: StmtSub,
     ) -> Result<StmtSub, ParseError>
         requires { Nests self.now.room (F.pre self.now.nested) (F.post self.now.nested) }
-        ensures { Reads see_stmt (spec.counted self.now.room (stmt_readers self.now.room) spot (see_stmt init) words.old) result words.new }
+        ensures { Reads see_stmt (spec.counted self.now.room (stmt_readers self.now.room) spot
+            (see_stmt init) words.old) result words.new }
     {
         match maybe_expr(self.alloc, words, self.room) {
             Ok(condition) => self.counted_on(words, spot, init, condition),
@@ -224,7 +242,8 @@ where
         places: Deep<Option<RangePlaces>>,
     ) -> Result<StmtSub, ParseError>
         requires { Nests self.now.room (F.pre self.now.nested) (F.post self.now.nested) }
-        ensures { Reads see_stmt (spec.ranged self.now.room (stmt_readers self.now.room) spot (see_deep places_view places) words.old) result words.new }
+        ensures { Reads see_stmt (spec.ranged self.now.room (stmt_readers self.now.room) spot
+            (see_deep places_view places) words.old) result words.new }
     {
         match expr_of_budget(self.alloc, words, self.room, true) {
             Ok(over) => match self.a_body(words) {
@@ -242,7 +261,8 @@ where
         condition: Sub,
     ) -> Result<StmtSub, ParseError>
         requires { Nests self.now.room (F.pre self.now.nested) (F.post self.now.nested) }
-        ensures { Reads see_stmt (spec.while_of self.now.room (stmt_readers self.now.room) spot (see condition) words.old) result words.new }
+        ensures { Reads see_stmt (spec.while_of self.now.room (stmt_readers self.now.room) spot
+            (see condition) words.old) result words.new }
     {
         match self.a_body(words) {
             Ok(body) => Ok(while_over(self.alloc, spot, condition, body)?),
@@ -254,7 +274,8 @@ where
     #[tactic(auto, unfolding(ui_parse::specs::Reader::take_by))]
     fn loop_on(&self, words: &mut Cursor<'_>, spot: Spot, of: Sub) -> Result<StmtSub, ParseError>
         requires { Nests self.now.room (F.pre self.now.nested) (F.post self.now.nested) }
-        ensures { Reads see_stmt (parts.loop_on self.now.room (stmt_readers self.now.room) spot (see of) words.old) result words.new }
+        ensures { Reads see_stmt (parts.loop_on self.now.room (stmt_readers self.now.room) spot
+            (see of) words.old) result words.new }
     {
         if of.depth < self.room && words.take(TokenKind::Semi).is_some() {
             return match alone(self.alloc, of) {
@@ -272,7 +293,8 @@ where
         head: Head,
     ) -> Result<StmtSub, ParseError>
         requires { Nests self.now.room (F.pre self.now.nested) (F.post self.now.nested) }
-        ensures { Reads see_stmt (spec.for_behind self.now.room (stmt_readers self.now.room) spot (see_head head) words.old) result words.new }
+        ensures { Reads see_stmt (spec.for_behind self.now.room (stmt_readers self.now.room) spot
+            (see_head head) words.old) result words.new }
     {
         match head {
             Head::Expression(of) => self.loop_on(words, spot, of),
@@ -287,7 +309,8 @@ where
     #[tactic(auto, unfolding(ui_parse::specs::Reader::take_by))]
     fn for_header(&self, words: &mut Cursor<'_>, spot: Spot) -> Result<StmtSub, ParseError>
         requires { Nests self.now.room (F.pre self.now.nested) (F.post self.now.nested) }
-        ensures { Reads see_stmt (spec.for_header self.now.room (stmt_readers self.now.room) spot words.old) result words.new }
+        ensures { Reads see_stmt (spec.for_header self.now.room
+            (stmt_readers self.now.room) spot words.old) result words.new }
     {
         if words.take(TokenKind::Range).is_some() {
             return self.ranged(words, spot, Deep { of: None, depth: 0 });
@@ -308,7 +331,8 @@ where
     #[tactic(auto, unfolding(ui_stmts::specs::Stmts::for_stmt, ui_parse::specs::Reader::take_by))]
     pub(crate) fn for_stmt(&self, words: &mut Cursor<'_>, spot: Spot) -> Result<StmtSub, ParseError>
         requires { Nests self.now.room (F.pre self.now.nested) (F.post self.now.nested) }
-        ensures { Reads see_stmt (spec.for_stmt self.now.room (stmt_readers self.now.room) spot words.old) result words.new }
+        ensures { Reads see_stmt (spec.for_stmt self.now.room
+            (stmt_readers self.now.room) spot words.old) result words.new }
     {
         if let Some(open) = words.take(TokenKind::LBrace) {
             return match self.body(words, open) {

@@ -27,7 +27,9 @@ use ui_tree::{CommonTree, StmtTree};
 
 #[tactic(auto, using(ui_psimple::specs::StmtViews::view_Return))]
 fn return_over(alloc: Global, spot: Spot, values: Subs) -> Result<StmtSub, NoMemory>
-    ensures { IfOk result (λ s. see_stmt s ≡ sized (plain.returning spot (plain.given_trees (trees (see_all values).items))) (suc values.depth)) }
+    ensures { IfOk result (λ s. see_stmt s ≡ sized
+        (plain.returning spot (plain.given_trees (trees (see_all values).items)))
+        (suc values.depth)) }
 {
     let depth = values.depth;
     let tree = StmtTree::Return {
@@ -59,7 +61,8 @@ fn return_stmt(
     room: u32,
     spot: Spot,
 ) -> Result<StmtSub, ParseError>
-    ensures { Reads see_stmt (parts.return_stmt room (stmt_readers room) spot words.old) result words.new }
+    ensures { Reads see_stmt (parts.return_stmt room (stmt_readers room) spot words.old) result
+        words.new }
 {
     match maybe_exprs(alloc, words, room) {
         Ok(Some(values)) => Ok(return_over(alloc, spot, values)?),
@@ -70,7 +73,8 @@ fn return_stmt(
 
 #[tactic(auto, using(ui_psimple::specs::StmtViews::view_Common))]
 fn common_over(alloc: Global, of: Deep<CommonTree>) -> Result<StmtSub, NoMemory>
-    ensures { IfOk result (λ s. see_stmt s ≡ sized (plain.common (see_deep common_view of).of) (suc of.depth)) }
+    ensures { IfOk result (λ s. see_stmt s ≡ sized (plain.common (see_deep common_view of).of)
+        (suc of.depth)) }
 {
     stmt_over(alloc, StmtTree::Common(of.of), of.depth)
 }
@@ -82,7 +86,8 @@ fn constant_or_simple(
     words: &mut Cursor<'_>,
     room: u32,
 ) -> Result<StmtSub, ParseError>
-    ensures { Reads see_stmt (parts.constant_or_simple room (stmt_readers room) words.old) result words.new }
+    ensures { Reads see_stmt (parts.constant_or_simple room (stmt_readers room) words.old) result
+        words.new }
 {
     match words.take(TokenKind::Const) {
         Some(spot) => match constant_decl(alloc, words, room, spot) {
@@ -100,7 +105,8 @@ fn variables(
     room: u32,
     spot: Spot,
 ) -> Result<StmtSub, ParseError>
-    ensures { Reads see_stmt (parts.variables room (stmt_readers room) spot words.old) result words.new }
+    ensures { Reads see_stmt (parts.variables room (stmt_readers room) spot words.old) result
+        words.new }
 {
     match variable_decl(alloc, words, room, spot) {
         Ok(specs) => Ok(common_over(alloc, specs)?),
@@ -116,7 +122,8 @@ where
     #[tactic(auto, using(ui_psimple::specs::StmtViews::view_Break, ui_psimple::specs::StmtViews::view_Continue), unfolding(ui_parse::specs::Reader::take_by))]
     fn plain_stmt(&self, words: &mut Cursor<'_>) -> Result<StmtSub, ParseError>
         requires { Nests self.now.room (F.pre self.now.nested) (F.post self.now.nested) }
-        ensures { Reads see_stmt (spec.plain_stmt self.now.room (stmt_readers self.now.room) words.old) result words.new }
+        ensures { Reads see_stmt (spec.plain_stmt self.now.room
+            (stmt_readers self.now.room) words.old) result words.new }
     {
         if let Some(spot) = words.take(TokenKind::Return) {
             return return_stmt(self.alloc, words, self.room, spot);
@@ -140,7 +147,8 @@ where
     #[tactic(auto, unfolding(ui_parse::specs::Reader::take_by))]
     fn branch_or_plain(&self, words: &mut Cursor<'_>) -> Result<StmtSub, ParseError>
         requires { Nests self.now.room (F.pre self.now.nested) (F.post self.now.nested) }
-        ensures { Reads see_stmt (parts.branch_or_plain self.now.room (stmt_readers self.now.room) words.old) result words.new }
+        ensures { Reads see_stmt (parts.branch_or_plain self.now.room
+            (stmt_readers self.now.room) words.old) result words.new }
     {
         if self.room == 0 {
             return self.plain_stmt(words);
@@ -154,7 +162,8 @@ where
     #[tactic(auto, unfolding(ui_stmts::specs::Stmts::stmt, ui_parse::specs::Reader::take_by))]
     fn own_stmt(&self, words: &mut Cursor<'_>) -> Result<StmtSub, ParseError>
         requires { Nests self.now.room (F.pre self.now.nested) (F.post self.now.nested) }
-        ensures { Reads see_stmt (spec.stmt self.now.room (stmt_readers self.now.room) words.old) result words.new }
+        ensures { Reads see_stmt (spec.stmt self.now.room (stmt_readers self.now.room) words.old)
+            result words.new }
     {
         if let Some(spot) = words.take(TokenKind::LBrace) {
             return self.block_stmt(words, spot);
@@ -168,7 +177,8 @@ where
     /// A statement of which so much has been taken.
     pub(crate) fn begun(&self, words: &mut Cursor<'_>, begun: Begun) -> Result<StmtSub, ParseError>
         requires { Nests self.now.room (F.pre self.now.nested) (F.post self.now.nested) }
-        ensures { Reads see_stmt (stmt_in (next_stmt self.now.room (stmt_readers self.now.room)) begun words.old) result words.new }
+        ensures { Reads see_stmt (stmt_in (next_stmt self.now.room (stmt_readers self.now.room))
+            begun words.old) result words.new }
     {
         match begun {
             Begun::Nothing => self.own_stmt(words),

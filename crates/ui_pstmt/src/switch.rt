@@ -34,7 +34,9 @@ fn switch_over(
     on: Deep<Option<ExprTree>>,
     clauses: ClauseList,
 ) -> Result<StmtSub, NoMemory>
-    ensures { IfOk result (λ s. see_stmt s ≡ sized (plain.switch spot (maybe_stmt (option_map stmt_view init.of)) (maybe_view on.of) (see_clause_list clauses).of) (suc (max (max init.depth on.depth) clauses.depth))) }
+    ensures { IfOk result (λ s. see_stmt s ≡ sized
+        (plain.switch spot (maybe_stmt (option_map stmt_view init.of)) (maybe_view on.of)
+        (see_clause_list clauses).of) (suc (max (max init.depth on.depth) clauses.depth))) }
 {
     let header = init.depth.max(on.depth);
     let depth = header.max(clauses.depth);
@@ -67,7 +69,10 @@ where
         on: Option<Sub>,
         clauses: ClauseList,
     ) -> Result<StmtSub, NoMemory>
-        ensures { IfOk result (λ s. see_stmt s ≡ parts.switch_with self.now.room (stmt_readers self.now.room) spot (see_init self.now.room (stmt_readers self.now.room) init) (option_map see on) (see_clause_list clauses)) }
+        ensures { IfOk result (λ s. see_stmt s
+            ≡ parts.switch_with self.now.room (stmt_readers self.now.room) spot
+            (see_init self.now.room (stmt_readers self.now.room) init) (option_map see on)
+            (see_clause_list clauses)) }
     {
         let on = self.tree_of(on);
         switch_over(self.alloc, spot, init, on, clauses)
@@ -82,7 +87,9 @@ where
         on: Option<Sub>,
     ) -> Result<StmtSub, ParseError>
         requires { Nests self.now.room (F.pre self.now.nested) (F.post self.now.nested) }
-        ensures { Reads see_stmt (spec.switch_of self.now.room (stmt_readers self.now.room) spot (see_init self.now.room (stmt_readers self.now.room) init) (option_map see on) words.old) result words.new }
+        ensures { Reads see_stmt (spec.switch_of self.now.room (stmt_readers self.now.room) spot
+            (see_init self.now.room (stmt_readers self.now.room) init)
+            (option_map see on) words.old) result words.new }
     {
         match words.expect(TokenKind::LBrace) {
             Ok(_) => match self.clauses(words) {
@@ -96,7 +103,8 @@ where
     // Behind what stands before the value.
     fn tagged(&self, words: &mut Cursor<'_>, spot: Spot, init: Init) -> Result<StmtSub, ParseError>
         requires { Nests self.now.room (F.pre self.now.nested) (F.post self.now.nested) }
-        ensures { Reads see_stmt (spec.tagged self.now.room (stmt_readers self.now.room) spot (see_init self.now.room (stmt_readers self.now.room) init) words.old) result words.new }
+        ensures { Reads see_stmt (spec.tagged self.now.room (stmt_readers self.now.room) spot
+            (see_init self.now.room (stmt_readers self.now.room) init) words.old) result words.new }
     {
         match maybe_expr(self.alloc, words, self.room) {
             Ok(on) => self.switch_of(words, spot, init, on),
@@ -108,7 +116,8 @@ where
     #[tactic(auto, unfolding(ui_parse::specs::Reader::take_by))]
     fn switch_on(&self, words: &mut Cursor<'_>, spot: Spot, of: Sub) -> Result<StmtSub, ParseError>
         requires { Nests self.now.room (F.pre self.now.nested) (F.post self.now.nested) }
-        ensures { Reads see_stmt (parts.switch_on self.now.room (stmt_readers self.now.room) spot (see of) words.old) result words.new }
+        ensures { Reads see_stmt (parts.switch_on self.now.room (stmt_readers self.now.room) spot
+            (see of) words.old) result words.new }
     {
         if of.depth < self.room && words.take(TokenKind::Semi).is_some() {
             return match self.alone_init(of) {
@@ -127,7 +136,8 @@ where
         head: Option<Head>,
     ) -> Result<StmtSub, ParseError>
         requires { Nests self.now.room (F.pre self.now.nested) (F.post self.now.nested) }
-        ensures { Reads see_stmt (spec.maybe_head self.now.room (stmt_readers self.now.room) (option_map see_head head) spot words.old) result words.new }
+        ensures { Reads see_stmt (spec.maybe_head self.now.room (stmt_readers self.now.room)
+            (option_map see_head head) spot words.old) result words.new }
     {
         let Some(head) = head else {
             let init = self.no_init();
@@ -151,7 +161,8 @@ where
         spot: Spot,
     ) -> Result<StmtSub, ParseError>
         requires { Nests self.now.room (F.pre self.now.nested) (F.post self.now.nested) }
-        ensures { Reads see_stmt (spec.switch_stmt self.now.room (stmt_readers self.now.room) spot words.old) result words.new }
+        ensures { Reads see_stmt (spec.switch_stmt self.now.room
+            (stmt_readers self.now.room) spot words.old) result words.new }
     {
         if self.room == 0 {
             let init = self.no_init();

@@ -77,7 +77,8 @@ pub fn is_named_type(tree: &ExprTree) -> bool
 }
 
 fn named(tree: ExprTree, args: Option<Items<TypeExpr>>) -> Option<TypeExpr>
-    ensures { option_map type_view result ≡ named_by (name_of (view tree)) (option_map (map type_view) args) }
+    ensures { option_map type_view result ≡ named_by (name_of (view tree))
+        (option_map (map type_view) args) }
 {
     match tree {
         ExprTree::Name(name) => Some(TypeExpr::named(name, None, args)),

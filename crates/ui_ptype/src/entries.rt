@@ -26,7 +26,8 @@ use ui_tree::{Placed, TypeExpr};
 
 /// The type that an expression's text is too; a fault where it is none.
 pub fn cover_type(alloc: Global, words: &Cursor<'_>, cover: Sub) -> Result<TypeSub, ParseError>
-    ensures { Reads see_type (covered (see cover) (as_type (see cover).tree) words.now) result words.now }
+    ensures { Reads see_type (covered (see cover) (as_type (see cover).tree) words.now) result
+        words.now }
 {
     let Sub { tree, spot, depth } = cover;
     match into_type(alloc, tree.into_inner())? {
@@ -48,7 +49,9 @@ where
         cover: Sub,
     ) -> Result<Params, ParseError>
         requires { Nests self.now.room (F.pre self.now.part) (F.post self.now.part) }
-        ensures { Reads see_params (spec.add_argument self.now.room (readers self.now.room) (see_params params) name (as_type (see cover).tree) cover.depth words.old) result words.new }
+        ensures { Reads see_params (spec.add_argument self.now.room (readers self.now.room)
+            (see_params params) name (as_type (see cover).tree) cover.depth words.old) result
+            words.new }
     {
         if !is_type(cover.tree.get()) {
             return Err(ParseError::Fault);
@@ -81,7 +84,9 @@ where
         cover: Sub,
     ) -> Result<Params, ParseError>
         requires { Nests self.now.room (F.pre self.now.part) (F.post self.now.part) }
-        ensures { Reads see_params (spec.behind_bracket self.now.room (readers self.now.room) (see_params params) name spot (see cover) (only_type (see cover).tree) words.old) result words.new }
+        ensures { Reads see_params (spec.behind_bracket self.now.room (readers self.now.room)
+            (see_params params) name spot (see cover) (only_type (see cover).tree) words.old) result
+            words.new }
     {
         if is_type_alone(cover.tree.get()) {
             return self.add_argument(words, params, name, cover);
@@ -118,7 +123,9 @@ where
         cover: Sub,
     ) -> Result<Params, ParseError>
         requires { Nests self.now.room (F.pre self.now.part) (F.post self.now.part) }
-        ensures { Reads see_params (spec.behind_cover self.now.room (readers self.now.room) (see_params params) name spot (see cover) (as_type (see cover).tree) words.old) result words.new }
+        ensures { Reads see_params (spec.behind_cover self.now.room (readers self.now.room)
+            (see_params params) name spot (see cover) (as_type (see cover).tree) words.old) result
+            words.new }
     {
         if is_type(cover.tree.get()) && words.take(TokenKind::Comma).is_some() {
             let first = match cover_type(self.alloc, words, cover) {
@@ -154,7 +161,8 @@ where
         spot: Spot,
     ) -> Result<Params, ParseError>
         requires { Nests self.now.room (F.pre self.now.part) (F.post self.now.part) }
-        ensures { Reads see_params (spec.bracketed self.now.room (readers self.now.room) (see_params params) name spot words.old) result words.new }
+        ensures { Reads see_params (spec.bracketed self.now.room (readers self.now.room)
+            (see_params params) name spot words.old) result words.new }
     {
         if words.take(TokenKind::RBracket).is_some() {
             let of = match self.a_lower_type(words) {
@@ -185,7 +193,8 @@ where
         name: Placed,
     ) -> Result<Params, ParseError>
         requires { Nests self.now.room (F.pre self.now.part) (F.post self.now.part) }
-        ensures { Reads see_params (spec.maybe_named self.now.room (readers self.now.room) (see_params params) name words.old) result words.new }
+        ensures { Reads see_params (spec.maybe_named self.now.room (readers self.now.room)
+            (see_params params) name words.old) result words.new }
     {
         match self.type_at(words, TypeSite::Plain) {
             Ok(Some(of)) => match params.add_named(self.alloc, name, of) {
@@ -208,7 +217,8 @@ where
         name: Placed,
     ) -> Result<Params, ParseError>
         requires { Nests self.now.room (F.pre self.now.part) (F.post self.now.part) }
-        ensures { Reads see_params (spec.qualified self.now.room (readers self.now.room) (see_params params) name words.old) result words.new }
+        ensures { Reads see_params (spec.qualified self.now.room (readers self.now.room)
+            (see_params params) name words.old) result words.new }
     {
         let member = match words.expect_name(self.alloc) {
             Ok(member) => member,
@@ -233,7 +243,8 @@ where
         name: Placed,
     ) -> Result<Params, ParseError>
         requires { Nests self.now.room (F.pre self.now.part) (F.post self.now.part) }
-        ensures { Reads see_params (spec.open_name self.now.room (readers self.now.room) (see_params params) name words.old) result words.new }
+        ensures { Reads see_params (spec.open_name self.now.room (readers self.now.room)
+            (see_params params) name words.old) result words.new }
     {
         if self.room < 2 {
             return self.maybe_named(words, params, name);
@@ -249,7 +260,8 @@ where
 
     fn bare_param(&self, words: &mut Cursor<'_>, params: Params) -> Result<Params, ParseError>
         requires { Nests self.now.room (F.pre self.now.part) (F.post self.now.part) }
-        ensures { Reads see_params (spec.bare_param self.now.room (readers self.now.room) (see_params params) words.old) result words.new }
+        ensures { Reads see_params (spec.bare_param self.now.room (readers self.now.room)
+            (see_params params) words.old) result words.new }
     {
         let of = match self.a_type(words) {
             Ok(of) => of,
@@ -265,7 +277,8 @@ where
     #[tactic(auto, unfolding(ui_syntax::specs::Types::param, ui_parse::specs::Reader::take_by))]
     fn param(&self, words: &mut Cursor<'_>, params: Params) -> Result<Params, ParseError>
         requires { Nests self.now.room (F.pre self.now.part) (F.post self.now.part) }
-        ensures { Reads see_params (spec.param self.now.room (readers self.now.room) (see_params params) words.old) result words.new }
+        ensures { Reads see_params (spec.param self.now.room (readers self.now.room)
+            (see_params params) words.old) result words.new }
     {
         if self.room == 0 {
             return Err(ParseError::Fault);
@@ -287,7 +300,9 @@ where
 
     fn param_list(&self, words: &mut Cursor<'_>) -> Result<Params, ParseError>
         requires { Nests self.now.room (F.pre self.now.part) (F.post self.now.part) }
-        ensures { Reads see_params (reader.parts Comma RParen spec.params_ending (spec.param self.now.room (readers self.now.room)) spec.no_params words.old) result words.new }
+        ensures { Reads see_params (reader.parts Comma RParen spec.params_ending
+            (spec.param self.now.room (readers self.now.room)) spec.no_params words.old) result
+            words.new }
     {
         let params = Params::new(self.alloc);
         parts(
@@ -303,7 +318,8 @@ where
     #[tactic(auto, unfolding(ui_syntax::specs::Types::params))]
     pub fn params(&self, words: &mut Cursor<'_>) -> Result<Groups, ParseError>
         requires { Nests self.now.room (F.pre self.now.part) (F.post self.now.part) }
-        ensures { Reads see_groups (spec.params self.now.room (readers self.now.room) words.old) result words.new }
+        ensures { Reads see_groups (spec.params self.now.room (readers self.now.room) words.old)
+            result words.new }
     {
         let params = match self.param_list(words) {
             Ok(params) => params,

@@ -83,7 +83,8 @@ where
         least: u8,
     ) -> Result<Sub, ParseError>
         requires { Nests self.now.room (F.pre self.now.part) (F.post self.now.part) }
-        ensures { Reads see ((readers self.now.room).lower_level site least words.old) result words.new }
+        ensures { Reads see ((readers self.now.room).lower_level site least words.old) result
+            words.new }
     {
         self.level_within(words, self.room.saturating_sub(1), site, least)
     }
@@ -95,7 +96,8 @@ where
         site: TypeSite,
     ) -> Result<Option<TypeSub>, ParseError>
         requires { Nests self.now.room (F.pre self.now.part) (F.post self.now.part) }
-        ensures { Reads see_maybe ((readers self.now.room).maybe_type site words.old) result words.new }
+        ensures { Reads see_maybe ((readers self.now.room).maybe_type site words.old) result
+            words.new }
     {
         self.type_within(words, self.room, site)
     }
@@ -106,7 +108,8 @@ where
         words: &mut Cursor<'_>,
     ) -> Result<Option<TypeSub>, ParseError>
         requires { Nests self.now.room (F.pre self.now.part) (F.post self.now.part) }
-        ensures { Reads see_maybe ((readers self.now.room).lower_maybe_type at.Plain words.old) result words.new }
+        ensures { Reads see_maybe ((readers self.now.room).lower_maybe_type at.Plain words.old)
+            result words.new }
     {
         self.type_within(words, self.room.saturating_sub(1), TypeSite::Plain)
     }
@@ -114,7 +117,8 @@ where
     /// A type of one level less.
     pub fn a_type(&self, words: &mut Cursor<'_>) -> Result<TypeSub, ParseError>
         requires { Nests self.now.room (F.pre self.now.part) (F.post self.now.part) }
-        ensures { Reads see_type (spec.a_type self.now.room (readers self.now.room) words.old) result words.new }
+        ensures { Reads see_type (spec.a_type self.now.room (readers self.now.room) words.old)
+            result words.new }
     {
         match self.type_at(words, TypeSite::Plain) {
             Ok(Some(of)) => Ok(of),
@@ -125,7 +129,8 @@ where
 
     pub(crate) fn a_lower_type(&self, words: &mut Cursor<'_>) -> Result<TypeSub, ParseError>
         requires { Nests self.now.room (F.pre self.now.part) (F.post self.now.part) }
-        ensures { Reads see_type (spec.a_lower_type self.now.room (readers self.now.room) words.old) result words.new }
+        ensures { Reads see_type (spec.a_lower_type self.now.room (readers self.now.room) words.old)
+            result words.new }
     {
         match self.maybe_lower_type(words) {
             Ok(Some(of)) => Ok(of),
@@ -136,7 +141,8 @@ where
 
     pub(crate) fn type_in(&self, words: &mut Cursor<'_>, lower: bool) -> Result<TypeSub, ParseError>
         requires { Nests self.now.room (F.pre self.now.part) (F.post self.now.part) }
-        ensures { Reads see_type (type_in self.now.room (readers self.now.room) lower words.old) result words.new }
+        ensures { Reads see_type (type_in self.now.room (readers self.now.room) lower words.old)
+            result words.new }
     {
         if lower {
             self.a_lower_type(words)
@@ -147,7 +153,8 @@ where
 
     pub(crate) fn an_element(&self, words: &mut Cursor<'_>) -> Result<TypeSub, ParseError>
         requires { Nests self.now.room (F.pre self.now.part) (F.post self.now.part) }
-        ensures { Reads see_type (spec.an_element self.now.room (readers self.now.room) words.old) result words.new }
+        ensures { Reads see_type (spec.an_element self.now.room (readers self.now.room) words.old)
+            result words.new }
     {
         match self.type_at(words, TypeSite::Element) {
             Ok(Some(of)) => Ok(of),
@@ -159,7 +166,8 @@ where
     /// An expression of one level less.
     pub fn an_expr(&self, words: &mut Cursor<'_>) -> Result<Sub, ParseError>
         requires { Nests self.now.room (F.pre self.now.part) (F.post self.now.part) }
-        ensures { Reads see (exprs.an_expr self.now.room (readers self.now.room) words.old) result words.new }
+        ensures { Reads see (exprs.an_expr self.now.room (readers self.now.room) words.old) result
+            words.new }
     {
         self.level_at(words, Site::Plain, 1)
     }

@@ -1,4 +1,5 @@
-//! The trees of types and signatures, from tokens: all but the expressions in them, which function values read.
+//! The trees of types and signatures, from tokens: all but the expressions in them, which function
+//! values read.
 #![tactic(auto)]
 
 mod cover;

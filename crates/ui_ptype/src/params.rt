@@ -27,7 +27,8 @@ fn add_bare(
     groups: Items<Group<Boxed<TypeExpr>>>,
     names: Vec<Placed>,
 ) -> Result<Items<Group<Boxed<TypeExpr>>>, NoMemory>
-    ensures { IfOk result (λ gs. map (group_with type_view) gs ≡ map (group_with type_view) groups ++ spec.as_types names.items) }
+    ensures { IfOk result (λ gs. map (group_with type_view) gs
+        ≡ map (group_with type_view) groups ++ spec.as_types names.items) }
 {
     let mut groups = groups;
     for name in names {
@@ -62,7 +63,8 @@ impl Params {
     }
 
     pub(crate) fn add_type(self, alloc: Global, of: TypeSub) -> Result<Params, NoMemory>
-        ensures { IfOk result (λ ps. see_params ps ≡ spec.add_type (see_params self) (see_type of)) }
+        ensures { IfOk result (λ ps. see_params ps
+            ≡ spec.add_type (see_params self) (see_type of)) }
     {
         let Params {
             groups,
@@ -95,7 +97,8 @@ impl Params {
         name: Placed,
         of: TypeSub,
     ) -> Result<Params, NoMemory>
-        ensures { IfOk result (λ ps. see_params ps ≡ spec.add_named (see_params self) name (see_type of)) }
+        ensures { IfOk result (λ ps. see_params ps ≡ spec.add_named (see_params self) name
+            (see_type of)) }
     {
         let Params {
             mut groups,

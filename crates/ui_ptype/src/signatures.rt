@@ -44,7 +44,8 @@ where
     #[tactic(auto, unfolding(ui_syntax::specs::Types::results, ui_parse::specs::Reader::take_by))]
     pub fn results(&self, words: &mut Cursor<'_>) -> Result<Option<TypeSub>, ParseError>
         requires { Nests self.now.room (F.pre self.now.part) (F.post self.now.part) }
-        ensures { Reads (see_results self.now.room (readers self.now.room)) (spec.results self.now.room (readers self.now.room) words.old) result words.new }
+        ensures { Reads (see_results self.now.room (readers self.now.room))
+            (spec.results self.now.room (readers self.now.room) words.old) result words.new }
     {
         if let Some(spot) = words.take(TokenKind::LParen) {
             let Groups { items, depth } = match self.params(words) {
@@ -63,7 +64,8 @@ where
     #[tactic(auto, unfolding(ui_syntax::specs::Types::signature))]
     pub fn sig_type(&self, words: &mut Cursor<'_>, spot: Spot) -> Result<TypeSub, ParseError>
         requires { Nests self.now.room (F.pre self.now.part) (F.post self.now.part) }
-        ensures { Reads see_type (spec.signature self.now.room (readers self.now.room) (spec.func_of self.now.room (readers self.now.room) spot) words.old) result words.new }
+        ensures { Reads see_type (spec.signature self.now.room (readers self.now.room)
+            (spec.func_of self.now.room (readers self.now.room) spot) words.old) result words.new }
     {
         let params = match self.params(words) {
             Ok(params) => params,
@@ -88,7 +90,9 @@ where
     #[tactic(auto, unfolding(ui_syntax::specs::Types::signature))]
     pub(crate) fn method(&self, words: &mut Cursor<'_>, name: Placed) -> Result<TypeSub, ParseError>
         requires { Nests self.now.room (F.pre self.now.part) (F.post self.now.part) }
-        ensures { Reads see_type (spec.signature self.now.room (readers self.now.room) (spec.method_of self.now.room (readers self.now.room) name) words.old) result words.new }
+        ensures { Reads see_type (spec.signature self.now.room (readers self.now.room)
+            (spec.method_of self.now.room (readers self.now.room) name) words.old) result
+            words.new }
     {
         let params = match self.params(words) {
             Ok(params) => params,
@@ -117,7 +121,8 @@ where
         spot: Spot,
     ) -> Result<TypeSub, ParseError>
         requires { Nests self.now.room (F.pre self.now.part) (F.post self.now.part) }
-        ensures { Reads see_type (spec.func_type self.now.room (readers self.now.room) spot words.old) result words.new }
+        ensures { Reads see_type (spec.func_type self.now.room
+            (readers self.now.room) spot words.old) result words.new }
     {
         words.expect(TokenKind::LParen)?;
         self.sig_type(words, spot)

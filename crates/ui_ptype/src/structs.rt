@@ -1,4 +1,5 @@
-//! Structs and interfaces, behind the keyword. Go specification, "Struct types" and "Interface types".
+//! Structs and interfaces, behind the keyword. Go specification, "Struct types" and "Interface
+//! types".
 
 ghost use Rattle.std.specs.Prelude.{◌≡◌};
 ghost use Rattle.ui_parse.specs.Names as the_names;
@@ -40,7 +41,8 @@ where
     #[tactic(auto, unfolding(ui_syntax::specs::Types::field))]
     fn field(&self, words: &mut Cursor<'_>, fields: Groups) -> Result<Groups, ParseError>
         requires { Nests self.now.room (F.pre self.now.part) (F.post self.now.part) }
-        ensures { Reads see_groups (spec.field self.now.room (readers self.now.room) (see_groups fields) words.old) result words.new }
+        ensures { Reads see_groups (spec.field self.now.room (readers self.now.room)
+            (see_groups fields) words.old) result words.new }
     {
         if self.room == 0 {
             return Err(ParseError::Fault);
@@ -61,7 +63,9 @@ where
 
     fn field_list(&self, words: &mut Cursor<'_>) -> Result<Groups, ParseError>
         requires { Nests self.now.room (F.pre self.now.part) (F.post self.now.part) }
-        ensures { Reads see_groups (reader.parts Semi RBrace spec.any_end (spec.field self.now.room (readers self.now.room)) spec.empty words.old) result words.new }
+        ensures { Reads see_groups (reader.parts Semi RBrace spec.any_end
+            (spec.field self.now.room (readers self.now.room)) spec.empty words.old) result
+            words.new }
     {
         let fields = Groups::new(self.alloc);
         parts(
@@ -80,7 +84,8 @@ where
         spot: Spot,
     ) -> Result<TypeSub, ParseError>
         requires { Nests self.now.room (F.pre self.now.part) (F.post self.now.part) }
-        ensures { Reads see_type (spec.struct_type self.now.room (readers self.now.room) spot words.old) result words.new }
+        ensures { Reads see_type (spec.struct_type self.now.room
+            (readers self.now.room) spot words.old) result words.new }
     {
         words.expect(TokenKind::LBrace)?;
         let Groups { items, depth } = match self.field_list(words) {
@@ -99,7 +104,9 @@ where
         elems: TypeSubs,
     ) -> Result<TypeSubs, ParseError>
         requires { Nests self.now.room (F.pre self.now.part) (F.post self.now.part) }
-        ensures { Reads see_types (spec.one_more (spec.an_element self.now.room (readers self.now.room)) (see_types elems) words.old) result words.new }
+        ensures { Reads see_types (spec.one_more
+            (spec.an_element self.now.room (readers self.now.room)) (see_types elems) words.old)
+            result words.new }
     {
         let next = match self.an_element(words) {
             Ok(next) => next,
@@ -113,7 +120,9 @@ where
 
     fn element_list(&self, words: &mut Cursor<'_>) -> Result<TypeSubs, ParseError>
         requires { Nests self.now.room (F.pre self.now.part) (F.post self.now.part) }
-        ensures { Reads see_types (reader.parts Semi RBrace spec.any_end (spec.one_more (spec.an_element self.now.room (readers self.now.room))) spec.empty words.old) result words.new }
+        ensures { Reads see_types (reader.parts Semi RBrace spec.any_end
+            (spec.one_more (spec.an_element self.now.room (readers self.now.room))) spec.empty
+            words.old) result words.new }
     {
         let elems = TypeSubs::new(self.alloc);
         parts(
@@ -132,7 +141,8 @@ where
         spot: Spot,
     ) -> Result<TypeSub, ParseError>
         requires { Nests self.now.room (F.pre self.now.part) (F.post self.now.part) }
-        ensures { Reads see_type (spec.interface_type self.now.room (readers self.now.room) spot words.old) result words.new }
+        ensures { Reads see_type (spec.interface_type self.now.room
+            (readers self.now.room) spot words.old) result words.new }
     {
         words.expect(TokenKind::LBrace)?;
         let TypeSubs { items, depth } = match self.element_list(words) {

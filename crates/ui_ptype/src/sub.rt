@@ -151,7 +151,8 @@ impl TypeSubs {
 
     /// One more type.
     pub fn add(self, next: TypeSub) -> Result<TypeSubs, NoMemory>
-        ensures { IfOk result (λ l. see_types l ≡ add (see_types self) (see_type next).tree next.depth) }
+        ensures { IfOk result (λ l. see_types l
+            ≡ add (see_types self) (see_type next).tree next.depth) }
     {
         let TypeSubs {
             mut items,
@@ -183,7 +184,8 @@ impl Groups {
 
     /// One more group: names with their type.
     pub fn add(self, names: Items<Placed>, of: TypeSub) -> Result<Groups, NoMemory>
-        ensures { IfOk result (λ l. see_groups l ≡ add (see_groups self) (group names (see_type of).tree) of.depth) }
+        ensures { IfOk result (λ l. see_groups l
+            ≡ add (see_groups self) (group names (see_type of).tree) of.depth) }
     {
         let Groups {
             mut items,

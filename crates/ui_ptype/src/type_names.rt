@@ -53,7 +53,9 @@ where
         all: TypeSubs,
     ) -> Result<TypeSubs, ParseError>
         requires { Nests self.now.room (F.pre self.now.part) (F.post self.now.part) }
-        ensures { Reads see_types (spec.one_more (type_in self.now.room (readers self.now.room) lower) (see_types all) words.old) result words.new }
+        ensures { Reads see_types (spec.one_more
+            (type_in self.now.room (readers self.now.room) lower) (see_types all) words.old) result
+            words.new }
     {
         let next = match self.type_in(words, lower) {
             Ok(next) => next,
@@ -65,7 +67,8 @@ where
         }
     }
 
-    /// What follows the first type argument, up to the bracket. The types have one level less, or two.
+    /// What follows the first type argument, up to the bracket. The types have one level less, or
+    /// two.
     pub fn more_args(
         &self,
         words: &mut Cursor<'_>,
@@ -73,7 +76,9 @@ where
         first: TypeSub,
     ) -> Result<TypeSubs, ParseError>
         requires { Nests self.now.room (F.pre self.now.part) (F.post self.now.part) }
-        ensures { Reads see_types (spec.more_args (type_in self.now.room (readers self.now.room) lower) (spec.only (see_type first).tree first.depth) words.old) result words.new }
+        ensures { Reads see_types (spec.more_args
+            (type_in self.now.room (readers self.now.room) lower)
+            (spec.only (see_type first).tree first.depth) words.old) result words.new }
     {
         let all = match TypeSubs::only(self.alloc, first) {
             Ok(all) => all,
@@ -96,7 +101,9 @@ where
         first: TypeSub,
     ) -> Result<TypeSubs, ParseError>
         requires { Nests self.now.room (F.pre self.now.part) (F.post self.now.part) }
-        ensures { Reads see_types (spec.args_behind (type_in self.now.room (readers self.now.room) lower) (spec.only (see_type first).tree first.depth) words.old) result words.new }
+        ensures { Reads see_types (spec.args_behind
+            (type_in self.now.room (readers self.now.room) lower)
+            (spec.only (see_type first).tree first.depth) words.old) result words.new }
     {
         let all = match TypeSubs::only(self.alloc, first) {
             Ok(all) => all,
@@ -122,7 +129,9 @@ where
         member: Option<Placed>,
     ) -> Result<TypeSub, ParseError>
         requires { Nests self.now.room (F.pre self.now.part) (F.post self.now.part) }
-        ensures { Reads see_type (spec.maybe_args levels (type_in self.now.room (readers self.now.room) lower) name member words.old) result words.new }
+        ensures { Reads see_type (spec.maybe_args levels
+            (type_in self.now.room (readers self.now.room) lower) name member words.old) result
+            words.new }
     {
         let depth = name_depth(&member);
         if (depth as u64) < levels && words.take(TokenKind::LBracket).is_some() {
@@ -153,7 +162,8 @@ where
         name: Placed,
     ) -> Result<TypeSub, ParseError>
         requires { Nests self.now.room (F.pre self.now.part) (F.post self.now.part) }
-        ensures { Reads see_type (spec.named_type (suc self.now.room) (spec.a_type self.now.room (readers self.now.room)) name words.old) result words.new }
+        ensures { Reads see_type (spec.named_type (suc self.now.room)
+            (spec.a_type self.now.room (readers self.now.room)) name words.old) result words.new }
     {
         let levels = self.room as u64 + 1;
         if self.room == 0 {

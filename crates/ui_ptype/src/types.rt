@@ -25,7 +25,8 @@ where
 {
     fn map_type(&self, words: &mut Cursor<'_>, spot: Spot) -> Result<TypeSub, ParseError>
         requires { Nests self.now.room (F.pre self.now.part) (F.post self.now.part) }
-        ensures { Reads see_type (spec.map_type self.now.room (readers self.now.room) spot words.old) result words.new }
+        ensures { Reads see_type (spec.map_type self.now.room
+            (readers self.now.room) spot words.old) result words.new }
     {
         if let Err(fault) = words.expect(TokenKind::LBracket) {
             return Err(fault);
@@ -55,7 +56,8 @@ where
 
     fn array_type(&self, words: &mut Cursor<'_>, spot: Spot) -> Result<TypeSub, ParseError>
         requires { Nests self.now.room (F.pre self.now.part) (F.post self.now.part) }
-        ensures { Reads see_type (spec.array_type self.now.room (readers self.now.room) spot words.old) result words.new }
+        ensures { Reads see_type (spec.array_type self.now.room
+            (readers self.now.room) spot words.old) result words.new }
     {
         let len = match self.level_at(words, Site::Plain, 1) {
             Ok(len) => len,
@@ -87,7 +89,8 @@ where
         spot: Spot,
     ) -> Result<TypeSub, ParseError>
         requires { Nests self.now.room (F.pre self.now.part) (F.post self.now.part) }
-        ensures { Reads see_type (spec.counted_type self.now.room (readers self.now.room) (type_in self.now.room (readers self.now.room) lower) spot words.old) result words.new }
+        ensures { Reads see_type (spec.counted_type self.now.room (readers self.now.room)
+            (type_in self.now.room (readers self.now.room) lower) spot words.old) result words.new }
     {
         if let Err(fault) = words.expect(TokenKind::RBracket) {
             return Err(fault);
@@ -112,7 +115,8 @@ where
         spot: Spot,
     ) -> Result<TypeSub, ParseError>
         requires { Nests self.now.room (F.pre self.now.part) (F.post self.now.part) }
-        ensures { Reads see_type (spec.counted_or_array self.now.room (readers self.now.room) site spot words.old) result words.new }
+        ensures { Reads see_type (spec.counted_or_array self.now.room
+            (readers self.now.room) site spot words.old) result words.new }
     {
         let lower = match site {
             TypeSite::Plain | TypeSite::Element => return self.array_type(words, spot),
@@ -134,7 +138,8 @@ where
         spot: Spot,
     ) -> Result<TypeSub, ParseError>
         requires { Nests self.now.room (F.pre self.now.part) (F.post self.now.part) }
-        ensures { Reads see_type (spec.bracket_type self.now.room (readers self.now.room) site spot words.old) result words.new }
+        ensures { Reads see_type (spec.bracket_type self.now.room
+            (readers self.now.room) site spot words.old) result words.new }
     {
         if words.take(TokenKind::RBracket).is_none() {
             return self.counted_or_array(words, site, spot);
@@ -157,7 +162,8 @@ where
         site: TypeSite,
     ) -> Result<Option<TypeSub>, ParseError>
         requires { Nests self.now.room (F.pre self.now.part) (F.post self.now.part) }
-        ensures { Reads see_maybe (spec.deep_type self.now.room (readers self.now.room) site (pure None) words.old) result words.new }
+        ensures { Reads see_maybe (spec.deep_type self.now.room (readers self.now.room) site
+            (pure None) words.old) result words.new }
     {
         if self.room == 0 {
             return Ok(None);
@@ -185,7 +191,8 @@ where
         site: TypeSite,
     ) -> Result<Option<TypeSub>, ParseError>
         requires { Nests self.now.room (F.pre self.now.part) (F.post self.now.part) }
-        ensures { Reads see_maybe (spec.operand_type self.now.room (readers self.now.room) site (pure None) words.old) result words.new }
+        ensures { Reads see_maybe (spec.operand_type self.now.room (readers self.now.room) site
+            (pure None) words.old) result words.new }
     {
         if let Some(spot) = words.take(TokenKind::Func) {
             return match self.func_type(words, spot) {
@@ -210,7 +217,8 @@ where
 
     fn pointer_type(&self, words: &mut Cursor<'_>, spot: Spot) -> Result<TypeSub, ParseError>
         requires { Nests self.now.room (F.pre self.now.part) (F.post self.now.part) }
-        ensures { Reads see_type (spec.pointer_type self.now.room (readers self.now.room) spot words.old) result words.new }
+        ensures { Reads see_type (spec.pointer_type self.now.room
+            (readers self.now.room) spot words.old) result words.new }
     {
         let of = match self.a_type(words) {
             Ok(of) => of,
@@ -225,7 +233,8 @@ where
 
     fn parenthesized_type(&self, words: &mut Cursor<'_>, spot: Spot) -> Result<TypeSub, ParseError>
         requires { Nests self.now.room (F.pre self.now.part) (F.post self.now.part) }
-        ensures { Reads see_type (spec.parenthesized_type self.now.room (readers self.now.room) spot words.old) result words.new }
+        ensures { Reads see_type (spec.parenthesized_type self.now.room
+            (readers self.now.room) spot words.old) result words.new }
     {
         let of = match self.a_type(words) {
             Ok(of) => of,
@@ -249,7 +258,8 @@ where
     #[tactic(auto, unfolding(ui_parse::specs::Reader::take_by))]
     fn marked_type(&self, words: &mut Cursor<'_>) -> Result<Option<TypeSub>, ParseError>
         requires { Nests self.now.room (F.pre self.now.part) (F.post self.now.part) }
-        ensures { Reads see_maybe (spec.marked_type self.now.room (readers self.now.room) words.old) result words.new }
+        ensures { Reads see_maybe (spec.marked_type self.now.room (readers self.now.room) words.old)
+            result words.new }
     {
         if self.room == 0 {
             return Ok(None);
@@ -273,7 +283,8 @@ where
     #[tactic(auto, using(crate::proofs::CodeReaders::reads_other))]
     pub(crate) fn other_type(&self, words: &mut Cursor<'_>) -> Result<Option<TypeSub>, ParseError>
         requires { Nests self.now.room (F.pre self.now.part) (F.post self.now.part) }
-        ensures { Reads see_maybe (spec.other_type self.now.room (readers self.now.room) words.old) result words.new }
+        ensures { Reads see_maybe (spec.other_type self.now.room (readers self.now.room) words.old)
+            result words.new }
     {
         match self.operand_type(words, TypeSite::Plain) {
             Ok(Some(of)) => Ok(Some(of)),
@@ -286,7 +297,8 @@ where
     #[tactic(auto, unfolding(ui_syntax::specs::Types::plain_type, ui_parse::specs::Reader::take_by))]
     pub fn plain_type(&self, words: &mut Cursor<'_>) -> Result<Option<TypeSub>, ParseError>
         requires { Nests self.now.room (F.pre self.now.part) (F.post self.now.part) }
-        ensures { Reads see_maybe (spec.plain_type self.now.room (readers self.now.room) words.old) result words.new }
+        ensures { Reads see_maybe (spec.plain_type self.now.room (readers self.now.room) words.old)
+            result words.new }
     {
         match words.take_name(self.alloc) {
             Ok(Some(name)) => match self.named_type(words, name) {
@@ -306,7 +318,8 @@ where
         site: TypeSite,
     ) -> Result<Option<TypeSub>, ParseError>
         requires { Nests self.now.room (F.pre self.now.part) (F.post self.now.part) }
-        ensures { Reads see_maybe (spec.maybe_type self.now.room (readers self.now.room) site words.old) result words.new }
+        ensures { Reads see_maybe (spec.maybe_type self.now.room
+            (readers self.now.room) site words.old) result words.new }
     {
         match site {
             TypeSite::Plain => self.plain_type(words),

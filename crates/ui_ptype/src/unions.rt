@@ -25,7 +25,8 @@ where
 {
     fn own_plain(&self, words: &mut Cursor<'_>) -> Result<TypeSub, ParseError>
         requires { Nests self.now.room (F.pre self.now.part) (F.post self.now.part) }
-        ensures { Reads see_type (own_plain self.now.room (readers self.now.room) words.old) result words.new }
+        ensures { Reads see_type (own_plain self.now.room (readers self.now.room) words.old) result
+            words.new }
     {
         match self.plain_type(words) {
             Ok(Some(of)) => Ok(of),
@@ -37,7 +38,8 @@ where
     /// A term's type, behind "~".
     pub fn tilde(&self, words: &mut Cursor<'_>, spot: Spot) -> Result<TypeSub, ParseError>
         requires { Nests self.now.room (F.pre self.now.part) (F.post self.now.part) }
-        ensures { Reads see_type (tilde_type self.now.room (readers self.now.room) spot words.old) result words.new }
+        ensures { Reads see_type (tilde_type self.now.room (readers self.now.room) spot words.old)
+            result words.new }
     {
         let of = match self.own_plain(words) {
             Ok(of) => of,
@@ -54,7 +56,8 @@ where
     #[tactic(auto, unfolding(ui_syntax::specs::Types::term, ui_parse::specs::Reader::take_by))]
     fn term(&self, words: &mut Cursor<'_>) -> Result<TypeSub, ParseError>
         requires { Nests self.now.room (F.pre self.now.part) (F.post self.now.part) }
-        ensures { Reads see_type (spec.term self.now.room (readers self.now.room) words.old) result words.new }
+        ensures { Reads see_type (spec.term self.now.room (readers self.now.room) words.old) result
+            words.new }
     {
         match words.take(TokenKind::Tilde) {
             Some(spot) => self.tilde(words, spot),
@@ -64,7 +67,8 @@ where
 
     fn one_more_term(&self, words: &mut Cursor<'_>, terms: TypeSubs) -> Result<TypeSubs, ParseError>
         requires { Nests self.now.room (F.pre self.now.part) (F.post self.now.part) }
-        ensures { Reads see_types (spec.one_more (spec.term self.now.room (readers self.now.room)) (see_types terms) words.old) result words.new }
+        ensures { Reads see_types (spec.one_more (spec.term self.now.room (readers self.now.room))
+            (see_types terms) words.old) result words.new }
     {
         let next = match self.term(words) {
             Ok(next) => next,
@@ -78,7 +82,9 @@ where
 
     fn more_terms(&self, words: &mut Cursor<'_>, first: TypeSub) -> Result<TypeSubs, ParseError>
         requires { Nests self.now.room (F.pre self.now.part) (F.post self.now.part) }
-        ensures { Reads see_types (reader.chain Or (spec.one_more (spec.term self.now.room (readers self.now.room))) (spec.only (see_type first).tree first.depth) words.old) result words.new }
+        ensures { Reads see_types (reader.chain Or
+            (spec.one_more (spec.term self.now.room (readers self.now.room)))
+            (spec.only (see_type first).tree first.depth) words.old) result words.new }
     {
         let terms = match TypeSubs::only(self.alloc, first) {
             Ok(terms) => terms,
@@ -100,7 +106,8 @@ where
         first: TypeSub,
     ) -> Result<Option<TypeSub>, ParseError>
         requires { Nests self.now.room (F.pre self.now.part) (F.post self.now.part) }
-        ensures { Reads see_maybe (spec.union_from self.now.room (readers self.now.room) (see_type first) words.old) result words.new }
+        ensures { Reads see_maybe (spec.union_from self.now.room (readers self.now.room)
+            (see_type first) words.old) result words.new }
     {
         let spot = first.spot;
         let TypeSubs { items, depth } = match self.more_terms(words, first) {
@@ -121,7 +128,8 @@ where
         name: Placed,
     ) -> Result<Option<TypeSub>, ParseError>
         requires { Nests self.now.room (F.pre self.now.part) (F.post self.now.part) }
-        ensures { Reads see_maybe (named_element self.now.room (readers self.now.room) name words.old) result words.new }
+        ensures { Reads see_maybe (named_element self.now.room
+            (readers self.now.room) name words.old) result words.new }
     {
         if words.take(TokenKind::LParen).is_some() {
             return match self.method(words, name) {
@@ -140,7 +148,8 @@ where
     #[tactic(auto, unfolding(ui_syntax::specs::Types::element, ui_parse::specs::Reader::take_by))]
     pub(crate) fn element(&self, words: &mut Cursor<'_>) -> Result<Option<TypeSub>, ParseError>
         requires { Nests self.now.room (F.pre self.now.part) (F.post self.now.part) }
-        ensures { Reads see_maybe (spec.element self.now.room (readers self.now.room) words.old) result words.new }
+        ensures { Reads see_maybe (spec.element self.now.room (readers self.now.room) words.old)
+            result words.new }
     {
         match words.take_name(self.alloc) {
             Ok(Some(name)) => return self.named_element(words, name),

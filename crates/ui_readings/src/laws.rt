@@ -10,9 +10,10 @@ pub fn lengths_are_expressions()
     ensures { LengthsAreExpressions }
 {}
 
-/// Behind the words `struct {`, some fields with their semicolons, and the names and the type of one
-/// field more, a string is a tag. It is one exactly where the bracket that is open last is a struct's
-/// brace, and the words behind it, or behind a semicolon in it, are the names and the type of a field.
+/// Behind the words `struct {`, some fields with their semicolons, and the names and the type of
+/// one field more, a string is a tag. It is one exactly where the bracket that is open last is a
+/// struct's brace, and the words behind it, or behind a semicolon in it, are the names and the type
+/// of a field.
 pub fn tags_stand_behind_fields()
     ensures behind { TagsBehindFields }
     ensures exactly { TagsExactly }

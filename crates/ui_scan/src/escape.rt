@@ -102,7 +102,8 @@ fn simple_escape(quote: u8, b: u8) -> Option<u8>
     }
 }
 
-/// The escape that the bytes begin with, in a literal with these quotes. The first byte is a backslash.
+/// The escape that the bytes begin with, in a literal with these quotes. The first byte is a
+/// backslash.
 #[tactic(auto, unfolding(crate::specs::Escape::escape))]
 pub fn escape_at(quote: u8, bytes: &[u8]) -> Option<Escape>
     ensures value { result ≡ spec.escape quote bytes.now }

@@ -161,8 +161,8 @@ pub enum ScanKind {
     OpenString,
 }
 
-/// A token: its kind, the offsets of its first byte and behind its last, and the line and column of its start, both
-/// from 1. A column counts bytes.
+/// A token: its kind, the offsets of its first byte and behind its last, and the line and column of
+/// its start, both from 1. A column counts bytes.
 #[derive(Clone, Copy, Debug, PartialEq, Eq)]
 pub struct Token {
     pub kind: TokenKind,

@@ -8,7 +8,8 @@ use crate::kind::{ScanKind, TokenKind};
 use crate::letters::byte_at;
 use crate::piece::Piece;
 
-/// A number's base, and the length of the prefix that tells it. A leading 0 tells it and is a digit.
+/// A number's base, and the length of the prefix that tells it. A leading 0 tells it and is a
+/// digit.
 #[derive(Clone, Copy)]
 pub struct Radix {
     pub base: u8,

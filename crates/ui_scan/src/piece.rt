@@ -89,7 +89,8 @@ fn word_or_operator(bytes: &[u8]) -> Piece
     }
 }
 
-/// The token that bytes begin with which begin with neither white space nor a comment, or why there is none.
+/// The token that bytes begin with which begin with neither white space nor a comment, or why there
+/// is none.
 #[tactic(auto, unfolding(crate::specs::Piece::lexeme))]
 pub fn lexeme(bytes: &[u8]) -> Piece
     requires { 0 < length bytes.now }
@@ -138,7 +139,8 @@ pub fn piece_at(bytes: &[u8]) -> Piece
     any_piece(bytes)
 }
 
-/// What is read is the longest token of any kind that the bytes begin with, and is read wherever there is one.
+/// What is read is the longest token of any kind that the bytes begin with, and is read wherever
+/// there is one.
 pub fn longest_tokens()
     ensures { ReadsTheLongest }
 {}

@@ -1,6 +1,7 @@
 //! The tokens of a file, one after another.
 
-ghost use Rattle.std.specs.Prelude.{◌≡◌, ◌<◌, ◌≤◌, ◌+◌, ◌-◌, ◌^◌, ℕ, List, length, take, drop, IfOk};
+ghost use Rattle.std.specs.Prelude.{◌≡◌, ◌<◌, ◌≤◌, ◌+◌, ◌-◌, ◌^◌, ℕ, List, length, take, drop};
+ghost use Rattle.std.specs.Prelude.{IfOk};
 ghost use Rattle.ui_scan.specs.declared.kind.Token.{Token as AToken};
 ghost use Rattle.ui_scan.specs.Tokens.{Tokens};
 ghost use Rattle.ui_scan.specs.Piece.{is_end};
@@ -14,8 +15,8 @@ use crate::source::source_of;
 use std::alloc::{AllocFailed, Global};
 use std::marker::Model;
 
-/// Gives the tokens of a file one after another. Contracts see what it gives from now on: some tokens, and then each
-/// time the end of the file or a fault.
+/// Gives the tokens of a file one after another. Contracts see what it gives from now on: some
+/// tokens, and then each time the end of the file or a fault.
 #[derive(Drop)]
 pub struct Scanner<'a> {
     text: &'a [u8],
@@ -209,8 +210,8 @@ impl<'a> Scanner<'a> {
         }
     }
 
-    /// The next token, or the fault in its place. At the end of the file the kind is `End` each time, and behind a
-    /// fault the same fault comes each time.
+    /// The next token, or the fault in its place. At the end of the file the kind is `End` each
+    /// time, and behind a fault the same fault comes each time.
     pub fn next(&mut self) -> Result<Token, ScanFault>
         ensures gives { result ≡ spec.first self.old }
         ensures after { self.new ≡ spec.rest self.old }
@@ -279,8 +280,8 @@ fn all_tokens(alloc: Global, bytes: &[u8]) -> Result<Vec<Token>, TokensFault>
     }
 }
 
-/// The tokens of a file, of which the last is its end, or the first fault in its place. Semicolons of empty span stand
-/// where line ends bring them about.
+/// The tokens of a file, of which the last is its end, or the first fault in its place. Semicolons
+/// of empty span stand where line ends bring them about.
 pub fn tokens(alloc: Global, bytes: &[u8]) -> Result<Vec<Token>, TokensFault>
     requires { length bytes.now < 2 ^ 32 - 1 }
     // What is found are the tokens of the file.
@@ -293,9 +294,13 @@ pub fn tokens(alloc: Global, bytes: &[u8]) -> Result<Vec<Token>, TokensFault>
     all_tokens(alloc, bytes)
 }
 
-/// What a scanner gives from a file's start up to its end are the tokens of the file, and no others are.
+/// What a scanner gives from a file's start up to its end are the tokens of the file, and no others
+/// are.
 pub fn scan_of_a_file()
-    ensures sound { (bytes : List ℕ) (ts : List AToken) → spec.tokens_of bytes ≡ Ok ts → Tokens bytes ts }
-    ensures complete { (bytes : List ℕ) (ts : List AToken) → Tokens bytes ts → spec.tokens_of bytes ≡ Ok ts }
-    ensures scanner { (bytes : List ℕ) → spec.tokens_of bytes ≡ spec.all_with (spec.scanned bytes).front (spec.scanned bytes).ends }
+    ensures sound { (bytes : List ℕ) (ts : List AToken) → spec.tokens_of bytes ≡ Ok ts
+        → Tokens bytes ts }
+    ensures complete { (bytes : List ℕ) (ts : List AToken) → Tokens bytes ts
+        → spec.tokens_of bytes ≡ Ok ts }
+    ensures scanner { (bytes : List ℕ) → spec.tokens_of bytes
+        ≡ spec.all_with (spec.scanned bytes).front (spec.scanned bytes).ends }
 {}

@@ -134,7 +134,8 @@ const SEMI_MARKS: [Row; 1] = [(b";", TokenKind::Semi)];
 
 // The kind of the word in a table, or `Ident`.
 fn kind_among(mut table: &[Row], word: &[u8]) -> TokenKind
-    ensures { result ≡ unwrap_or (spec.spelled (map (λ e. (e.0.now, e.1)) table.entry.now) word.now) Ident }
+    ensures { result ≡ unwrap_or (spec.spelled (map (λ e. (e.0.now, e.1)) table.entry.now) word.now)
+        Ident }
 {
     while let [entry, rest @ ..] = table {
         if entry.0 == word {
@@ -147,7 +148,9 @@ fn kind_among(mut table: &[Row], word: &[u8]) -> TokenKind
 
 // The keywords of a length.
 fn keywords_of(len: usize) -> &'static [Row]
-    ensures { (word : List ℕ) → length word ≡ len → spec.spelled (map (λ e. (e.0.now, e.1)) result.now) word ≡ spec.spelled spec.keywords word }
+    ensures { (word : List ℕ) → length word ≡ len
+        → spec.spelled (map (λ e. (e.0.now, e.1)) result.now) word
+        ≡ spec.spelled spec.keywords word }
 {
     match len {
         2 => &OF_TWO,
@@ -199,7 +202,8 @@ fn first_operator(mut table: &[Row], bytes: &[u8]) -> Piece
 
 // The operators that begin with a byte.
 fn operators_from(first: u8) -> &'static [Row]
-    ensures { (bytes : List ℕ) → slice_index bytes 0 ≡ first → spec.first_operator (map (λ e. (e.0.now, e.1)) result.now) bytes ≡ spec.operator bytes }
+    ensures { (bytes : List ℕ) → slice_index bytes 0 ≡ first
+        → spec.first_operator (map (λ e. (e.0.now, e.1)) result.now) bytes ≡ spec.operator bytes }
 {
     match first {
         b'<' => &LESS_MARKS,

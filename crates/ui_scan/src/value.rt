@@ -102,10 +102,12 @@ fn string_value(alloc: Global, text: &[u8]) -> Result<Vec<u8>, AllocError>
     }
 }
 
-/// The value of a literal token of these bytes: a whole number, the code of a character, or the bytes of a string.
+/// The value of a literal token of these bytes: a whole number, the code of a character, or the
+/// bytes of a string.
 pub fn value_of(alloc: Global, bytes: &[u8], token: &Token) -> Result<Value, NoMemory>
     requires { spec.IsLiteralOf bytes.now token.now }
-    ensures { IfOk result (λ v. v ≡ spec.value_in token.now.kind (spec.text_of bytes.now token.now)) }
+    ensures { IfOk result (λ v. v ≡ spec.value_in token.now.kind
+        (spec.text_of bytes.now token.now)) }
 {
     let text = &bytes[token.start as usize..token.end as usize];
     match token.kind {
@@ -120,5 +122,6 @@ pub fn value_of(alloc: Global, bytes: &[u8], token: &Token) -> Result<Value, NoM
 
 /// Each literal among the tokens of a file has a value.
 pub fn literals_have_values()
-    ensures { (bytes : List ℕ) (ts : List AToken) → Tokens bytes ts → All (spec.IsIfLiteral bytes) ts }
+    ensures { (bytes : List ℕ) (ts : List AToken) → Tokens bytes ts
+        → All (spec.IsIfLiteral bytes) ts }
 {}

@@ -11,7 +11,8 @@ use ui_types::{Ids, Name, Spot, Text, TypeId, Value};
 /// What an expression is checked to be.
 #[derive(Drop)]
 pub enum Operand {
-    /// A value: its checked tree, its type, its value where it is constant, and whether it has an address.
+    /// A value: its checked tree, its type, its value where it is constant, and whether it has an
+    /// address.
     Val {
         expr: Expr,
         ty: TypeId,

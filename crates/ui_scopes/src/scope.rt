@@ -1,6 +1,7 @@
 //! What names mean.
 
-ghost use Rattle.std.specs.Prelude.{◌≡◌, ℕ, List, [], OnOk, OnErr, option_map, bytes_eq, if◌then◌else◌};
+ghost use Rattle.std.specs.Prelude.{◌≡◌, ℕ, List, [], OnOk, OnErr, option_map, bytes_eq};
+ghost use Rattle.std.specs.Prelude.{if◌then◌else◌};
 ghost use Rattle.ui_scopes.specs.Scopes as scopes;
 ghost use Rattle.ui_scopes.specs.Scopes.{find_in, find_meaning};
 
@@ -48,7 +49,8 @@ impl Model for Level {
 /// The levels of names, the outermost first.
 pub type Levels = Items<Level>;
 
-/// The levels of names, the constraints in force, the package's own path, and the file that is checked.
+/// The levels of names, the constraints in force, the package's own path, and the file that is
+/// checked.
 #[derive(Drop)]
 pub struct Scope {
     pub levels: Levels,
@@ -69,7 +71,9 @@ impl Level {
 
     /// Gives the name of the bind its meaning, in place of one that it has in this level.
     pub fn put(&mut self, bind: Bind) -> Result<(), NoMemory>
-        ensures put { OnOk result ((n : List ℕ) → find_in self.new n ≡ (if bytes_eq n bind.name then Some bind.meaning else find_in self.old n)) }
+        ensures put { OnOk result ((n : List ℕ)
+            → find_in self.new n ≡ (if bytes_eq n bind.name then Some bind.meaning else find_in
+            self.old n)) }
         ensures unchanged { OnErr result (self.new ≡ self.old) }
     {
         let Bind { name, meaning } = bind;

@@ -21,7 +21,8 @@ pub fn make_type(
     node: TypeNode,
 ) -> Result<TypeId, CheckFault>
     requires { IsNode table.old node }
-    ensures answer { Gives (IsId table.new) (tree table.new) (made_at file.now at (shown table.old node)) result }
+    ensures answer { Gives (IsId table.new) (tree table.new)
+        (made_at file.now at (shown table.old node)) result }
     ensures grows { Grows table.old table.new }
 {
     match table.intern(alloc, node) {
@@ -42,7 +43,9 @@ pub fn under_at<E: Env>(
 ) -> Result<TypeId, CheckFault>
     requires env { Stands E.packages E.decls E.fits env.old table.old }
     requires id { IsId table.old t }
-    ensures answer { Gives (IsId table.new) (tree table.new) (steps.under_at (world (E.packages env.old) (E.decls env.old table.old)) file.now at (tree table.old t)) result }
+    ensures answer { Gives (IsId table.new) (tree table.new)
+        (steps.under_at (world (E.packages env.old) (E.decls env.old table.old)) file.now at
+        (tree table.old t)) result }
     ensures kept { Kept E.packages E.lent E.decls E.fits env.old table.old env.new table.new }
 {
     match underlying(alloc, env, table, t) {

@@ -57,8 +57,10 @@ pub(crate) fn parse_all(
     tokens: &[Vec<Token>],
 ) -> Result<Vec<FileTree>, CheckFault>
     requires measured { AreMeasured (map source_of sources.now) }
-    requires scanned { each spec.tokens_in (map source_of sources.now) ≡ Ok (map (λ v. v.items) tokens.now) }
-    ensures { Gives (λ v. map source_tree v.items) (each (spec.tree_in own.now) (map source_of sources.now)) result }
+    requires scanned { each spec.tokens_in (map source_of sources.now)
+        ≡ Ok (map (λ v. v.items) tokens.now) }
+    ensures { Gives (λ v. map source_tree v.items)
+        (each (spec.tree_in own.now) (map source_of sources.now)) result }
 {
     let mut files = Vec::new(alloc);
     for (i, source) in sources.iter().enumerate() {

@@ -47,7 +47,8 @@ fn scan(alloc: Global, source: &SourceFile) -> Result<Vec<Token>, CheckFault>
 /// The tokens of each source.
 pub(crate) fn scan_all(alloc: Global, sources: &[SourceFile]) -> Result<Vec<Vec<Token>>, CheckFault>
     requires { AreMeasured (map source_of sources.now) }
-    ensures { Gives (λ v. map (λ tokens. tokens.items) v.items) (each spec.tokens_in (map source_of sources.now)) result }
+    ensures { Gives (λ v. map (λ tokens. tokens.items) v.items)
+        (each spec.tokens_in (map source_of sources.now)) result }
 {
     let mut scanned = Vec::new(alloc);
     for source in sources {

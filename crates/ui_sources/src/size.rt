@@ -18,7 +18,8 @@ const BYTES_LIMIT: usize = 16777216;
 
 // Finds that no source is too long.
 fn measure(alloc: Global, sources: &[SourceFile]) -> Result<(), CheckFault>
-    ensures { Gives (λ _. map source_of sources.now) (each spec.measured (map source_of sources.now)) result }
+    ensures { Gives (λ _. map source_of sources.now)
+        (each spec.measured (map source_of sources.now)) result }
 {
     for source in sources {
         if source.is_long() {
@@ -29,7 +30,8 @@ fn measure(alloc: Global, sources: &[SourceFile]) -> Result<(), CheckFault>
     Ok(())
 }
 
-// The bytes of sources together, or nothing where there are more bytes or more sources than a package may have.
+// The bytes of sources together, or nothing where there are more bytes or more sources than a
+// package may have.
 fn size_within(sources: &[SourceFile]) -> Option<usize>
     ensures { result ≡ size_within (map source_of sources.now) }
 {

@@ -1,4 +1,5 @@
-//! Readers of statements, declarations and files as definitions, with the laws that they read exactly the forms of the grammar.
+//! Readers of statements, declarations and files as definitions, with the laws that they read
+//! exactly the forms of the grammar.
 #![tactic(auto)]
 
 mod laws;

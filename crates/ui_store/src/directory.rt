@@ -109,7 +109,8 @@ impl<R> DirStore<R> {
         StoreFault::Failed
     }
 
-    // What an error of the system is to a store. All but a missing file and want of memory counts as a fault.
+    // What an error of the system is to a store. All but a missing file and want of memory counts
+    // as a fault.
     fn fault(&mut self, error: io::Error) -> StoreFault
         ensures faults { result ≡ StoreFault.Failed → Rose self.old.faults self.new.faults }
         ensures later { self.old.faults ≤ self.new.faults }

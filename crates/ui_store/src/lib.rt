@@ -1,5 +1,5 @@
-//! The outside as the compiler sees it: a store of files under names, a source of bytes and sinks of bytes. Each tells
-//! what it holds where it can, and counts the faults of its device.
+//! The outside as the compiler sees it: a store of files under names, a source of bytes and sinks
+//! of bytes. Each tells what it holds where it can, and counts the faults of its device.
 #![tactic(auto)]
 
 mod directory;

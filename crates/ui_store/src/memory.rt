@@ -1,5 +1,7 @@
 // A store in memory, which tells its files and calls.
-ghost use Rattle.std.specs.Prelude.{◌≡◌, ◌≤◌, [], ◌∷◌, ◌++◌, Some, None, map, option_map, true, false, IfSome, IfOk, OnOk, OnErr, IsErrOf, string_bytes, vec_len, nat_eq};
+ghost use Rattle.std.specs.Prelude.{◌≡◌, ◌≤◌, [], ◌∷◌, ◌++◌, Some, None, map, option_map, true};
+ghost use Rattle.std.specs.Prelude.{false, IfSome, IfOk, OnOk, OnErr, IsErrOf, string_bytes};
+ghost use Rattle.std.specs.Prelude.{vec_len, nat_eq};
 ghost use Rattle.std.specs.List.{list_any};
 ghost use Rattle.std.specs.FinMap.{get, insert, empty};
 ghost use Rattle.ui_store.specs.Causes.{StoreCause};
@@ -16,8 +18,8 @@ use std::alloc::Global;
 use std::collections::BTreeMap;
 use ui_base::{NoMemory, Text};
 
-/// A store in memory, for tests and for callers that want no disk. It tells its files and calls, fails at the calls of
-/// a list, and a write that fails keeps a front of the bytes.
+/// A store in memory, for tests and for callers that want no disk. It tells its files and calls,
+/// fails at the calls of a list, and a write that fails keeps a front of the bytes.
 #[derive(Drop)]
 pub struct MemStore {
     files: BTreeMap<String, Vec<u8>>,
@@ -30,7 +32,8 @@ pub struct MemStore {
 
 impl MemStore {
     #[tactic(auto, unfolding(crate::specs::Memory::files_of))]
-    /// An empty store that fails at the calls of these numbers, from 0. A write that fails leaves the first `keep` bytes.
+    /// An empty store that fails at the calls of these numbers, from 0. A write that fails leaves
+    /// the first `keep` bytes.
     pub fn new(alloc: Global, fails: Vec<u64>, keep: usize) -> MemStore
         ensures { memory_of result ≡ record
             { files = empty; asked = []; fails = fails.items; keep = keep; calls = 0; faults = 0 } }

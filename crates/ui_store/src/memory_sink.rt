@@ -6,8 +6,8 @@ use crate::sink::Sink;
 use std::alloc::Global;
 use ui_base::NoMemory;
 
-/// A sink in memory, with room for so many bytes. It tells the bytes written, and fails at the calls of a list and where
-/// its room is used up.
+/// A sink in memory, with room for so many bytes. It tells the bytes written, and fails at the
+/// calls of a list and where its room is used up.
 #[derive(Drop)]
 pub struct MemSink {
     bytes: Vec<u8>,
@@ -22,7 +22,8 @@ pub struct MemSink {
 impl MemSink {
     ghost use Rattle.ui_store.specs.MemorySink.{buffer_of};
 
-    /// An empty sink, with the memory for its whole room. It fails at the calls of these numbers, from 0.
+    /// An empty sink, with the memory for its whole room. It fails at the calls of these numbers,
+    /// from 0.
     pub fn new(alloc: Global, room: usize, fails: Vec<u64>) -> Result<MemSink, NoMemory>
         ensures { IfOk result
             (λ s. buffer_of s ≡ record
@@ -59,7 +60,10 @@ impl Sink for MemSink {
     ghost use Rattle.ui_store.specs.Sinks.{Appends};
     ghost use Rattle.ui_store.specs.MemorySink.{buffer_of, IsWrite};
 
-    ghost told = { λ s. record { written = Some (buffer_of s).written; faults = (buffer_of s).faults } };
+    ghost told = { λ s. record {
+      written = Some (buffer_of s).written;
+      faults = (buffer_of s).faults;
+    } };
 
     /// Takes as many bytes as the room left holds. An empty piece needs no room. Takes no memory.
     #[tactic(auto, unfolding(crate::specs::Told::more))]

@@ -1,5 +1,6 @@
 // A store of files under names.
-ghost use Rattle.std.specs.Prelude.{◌≡◌, ◌≤◌, ℕ, List, Option, IfSome, IfOk, IsErrOf, IsSome, vec_len};
+ghost use Rattle.std.specs.Prelude.{◌≡◌, ◌≤◌, ℕ, List, Option, IfSome, IfOk, IsErrOf, IsSome};
+ghost use Rattle.std.specs.Prelude.{vec_len};
 ghost use Rattle.ui_store.specs.Causes.{StoreCause};
 ghost use Rattle.ui_store.specs.Files.{has_slash, texts, listing, reading};
 ghost use Rattle.ui_store.specs.Listings.{IsListing};
@@ -47,11 +48,12 @@ pub struct Heard {
 
 /// Files under names, as `src/a/a.go`. A folder is what stands before a `/`.
 pub trait Store {
-    /// What the store tells: its files, its calls and what they gave, each where it tells it, and its count of faults.
+    /// What the store tells: its files, its calls and what they gave, each where it tells it, and
+    /// its count of faults.
     ghost told: { Self → StoreView };
 
-    /// The last parts of all names that are the folder, `/` and a rest without `/`, ascending. `Missing` where there is
-    /// none.
+    /// The last parts of all names that are the folder, `/` and a rest without `/`, ascending.
+    /// `Missing` where there is none.
     fn list(&mut self, alloc: Global, dir: &str) -> Result<Vec<String>, StoreFault>
         ensures gives { IfSome (told self.old).files
             (λ files. Gives texts result (listing files dir.now)) }
@@ -78,7 +80,8 @@ pub trait Store {
             (told self.old).heard (told self.new).heard (AskKind.Read, name.now) }
         ensures cause { StoreCause (told self.old).faults (told self.new).faults result };
 
-    /// Puts bytes under a name. After `Failed` or `NoMemory` a front of them stands there, or the old contents.
+    /// Puts bytes under a name. After `Failed` or `NoMemory` a front of them stands there, or the
+    /// old contents.
     fn write(&mut self, alloc: Global, name: &str, bytes: &[u8]) -> Result<(), StoreFault>
         ensures files { Writes result (told self.old).files (told self.new).files
             name.now bytes.now }

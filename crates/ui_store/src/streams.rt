@@ -6,7 +6,8 @@ use crate::sink::Sink;
 use crate::source::Source;
 use std::io::{Read, Write};
 
-/// A source over a reader of std, as standard input is one. It tells nothing, and counts each fault of the system.
+/// A source over a reader of std, as standard input is one. It tells nothing, and counts each fault
+/// of the system.
 #[derive(Drop)]
 pub struct InSource<R> {
     inner: R,
@@ -37,8 +38,8 @@ impl<R: Read> Source for InSource<R> {
     }
 }
 
-/// A sink over a writer of std, as standard output is one. It tells nothing, and counts each fault of the system; a
-/// taken count of zero is one.
+/// A sink over a writer of std, as standard output is one. It tells nothing, and counts each fault
+/// of the system; a taken count of zero is one.
 #[derive(Drop)]
 pub struct OutSink<W> {
     inner: W,

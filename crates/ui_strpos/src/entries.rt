@@ -10,8 +10,8 @@ use crate::out::ElementOut;
 use std::alloc::Global;
 use ui_frame::NoMemory;
 
-/// What stands as an entry of a list in which each entry is tested by the one before it, as where the list has to
-/// ascend.
+/// What stands as an entry of a list in which each entry is tested by the one before it, as where
+/// the list has to ascend.
 pub trait ListEntry: Sized + Drop {
     // The grammar after an entry, or after none.
     ghost form: { Option Self → Format Self };
@@ -21,7 +21,8 @@ pub trait ListEntry: Sized + Drop {
 
     /// Writes the entry's fields.
     fn put(&self, alloc: Global, out: &mut ElementOut) -> Result<(), NoMemory>
-        ensures { OnOk result ((before : Option Self) → out.new ≡ written out.old ((form before).items self.now)) };
+        ensures { OnOk result ((before : Option Self)
+            → out.new ≡ written out.old ((form before).items self.now)) };
 
     /// Reads the fields of an entry after the one before.
     fn get(
@@ -30,7 +31,8 @@ pub trait ListEntry: Sized + Drop {
         before: Option<&Self>,
     ) -> Result<Self, ElementFault>
         requires { IfSome (option_copied before) (known input.old.context) }
-        ensures read { Gives (λ v. v) result input.new ((form (option_copied before.entry)).read input.old) }
+        ensures read { Gives (λ v. v) result input.new
+            ((form (option_copied before.entry)).read input.old) }
         ensures context { input.new.context ≡ input.old.context }
         ensures known { IfOk result (known input.new.context) };
 
@@ -69,7 +71,8 @@ fn so_many<T: ListEntry>(
     input: &mut ElementIn<'_>,
     count: u64,
 ) -> Result<Vec<T>, ElementFault>
-    ensures read { Gives (λ v. v.items) result input.new (times_by T.form Option.None count input.old) }
+    ensures read { Gives (λ v. v.items) result input.new
+        (times_by T.form Option.None count input.old) }
     ensures context { input.new.context ≡ input.old.context }
 {
     let mut list = Vec::new(alloc);

@@ -4,8 +4,8 @@ ghost use Rattle.ui_strpos.specs.Causes.{number_of};
 
 use std::alloc::{AllocError, AllocFailed};
 
-/// Why a file is refused. The first thirteen are found in single elements; the others, and some of these again, in the
-/// file as a whole.
+/// Why a file is refused. The first thirteen are found in single elements; the others, and some of
+/// these again, in the file as a whole.
 #[derive(Clone, Copy, Debug, PartialEq, Eq, Drop)]
 pub enum Cause {
     /// Sections or lists don't have the lengths that they must have, or a list doesn't ascend.
@@ -16,7 +16,8 @@ pub enum Cause {
     LongNumber,
     /// A truth value is neither 0 nor 1.
     BadBool,
-    /// No such code, kind or position; or a zero that has to stand there doesn't; or a body nests too deep.
+    /// No such code, kind or position; or a zero that has to stand there doesn't; or a body nests
+    /// too deep.
     BadCode,
     /// A String doesn't have the form that its use asks for.
     BadText,

@@ -1,10 +1,15 @@
-ghost use Rattle.std.specs.Prelude.{◌≡◌, ◌<◌, ◌≤◌, ◌^◌, ◌+◌, ℕ, nat_eq, if◌then◌else◌, MatchOption, IfOk, IfErr, List, [], All, length, map, drop, get_or};
+ghost use Rattle.std.specs.Prelude.{◌≡◌, ◌<◌, ◌≤◌, ◌^◌, ◌+◌, ℕ, nat_eq, if◌then◌else◌, MatchOption};
+ghost use Rattle.std.specs.Prelude.{IfOk, IfErr, List, [], All, length, map, drop, get_or};
 ghost use Rattle.ui_frame.specs.Reading.{uint_at};
 ghost use Rattle.ui_frame.specs.Sections.{number_of};
 ghost use Rattle.ui_frame.specs.Container.{section as section_in};
 ghost use Rattle.ui_strpos.specs.Contexts.{context};
 ghost use Rattle.ui_strpos.specs.Items.{target};
-ghost use Rattle.ui_strpos.specs.Reading.{State, Gives, Gives_value, IsMemory, uint_in, int_in, truth_in, use_in, finish_in, located, cause_of, count_of, below as spec_below, added, used_index, text_of, IsEntry, entry_in, entries_in, start_in, table_in, Leaves, Starts, Ends};
+ghost use Rattle.ui_strpos.specs.Reading.{State, Gives, Gives_value, IsMemory, uint_in, int_in};
+ghost use Rattle.ui_strpos.specs.Reading.{truth_in, use_in, finish_in, located, cause_of, count_of};
+ghost use Rattle.ui_strpos.specs.Reading.{below as spec_below, added, used_index, text_of, IsEntry};
+ghost use Rattle.ui_strpos.specs.Reading.{entry_in, entries_in, start_in, table_in, Leaves, Starts};
+ghost use Rattle.ui_strpos.specs.Reading.{Ends};
 
 use crate::fault::{Cause, ElementFault};
 use crate::shape::Shape;
@@ -36,9 +41,16 @@ impl<'a> Model for ElementIn<'a> {
 
     ghost Value = { State };
 
-    ghost view = { λ s. record { context = context s.own s.shape s.frame.now; table = s.table.keys; used = s.used; place = s.at; rest = drop s.at s.bytes.now } };
+    ghost view = { λ s. record {
+      context = context s.own s.shape s.frame.now;
+      table = s.table.keys;
+      used = s.used;
+      place = s.at;
+      rest = drop s.at s.bytes.now;
+    } };
 
-    ghost invariant = { λ s. (s.at ≤ length s.bytes.now) × (s.used ≤ length s.table.keys) × All (IsEntry (map length s.frame.now)) s.table.keys };
+    ghost invariant = { λ s. (s.at ≤ length s.bytes.now) × (s.used ≤ length s.table.keys)
+        × All (IsEntry (map length s.frame.now)) s.table.keys };
 }
 
 fn bad(offset: usize, fault: NumFault) -> ElementFault
@@ -86,7 +98,8 @@ fn section_of(n: u64) -> Option<Section>
 // The number of elements of a section, which is told by its number.
 #[tactic(auto, using(crate::specs::Contexts::count_is))]
 fn count(frame: &Frame<'_>, section: u64, offset: usize) -> Result<u32, ElementFault>
-    ensures read { Gives_value (λ _. section) result (spec_below 10 offset Cause.BadSection section) }
+    ensures read { Gives_value (λ _. section) result
+        (spec_below 10 offset Cause.BadSection section) }
     ensures known { IfOk result (λ _. section < 10) }
     ensures count { IfOk result (λ n. n ≡ get_or (map length frame.now) section 0) }
 {
@@ -119,7 +132,8 @@ fn below(n: u64, limit: u32, offset: usize) -> Result<u32, ElementFault>
 fn add(table: &mut Table, offset: usize, target: Target) -> Result<(), ElementFault>
     ensures read { Gives_value (λ _. table.new.keys) result (added table.old.keys offset target) }
     ensures longer { length table.old.keys ≤ length table.new.keys }
-    ensures known { (counts : List ℕ) → IsEntry counts target → All (IsEntry counts) table.old.keys → All (IsEntry counts) table.new.keys }
+    ensures known { (counts : List ℕ) → IsEntry counts target → All (IsEntry counts) table.old.keys
+        → All (IsEntry counts) table.new.keys }
 {
     if table.insert(target)? {
         return Ok(());
@@ -149,7 +163,8 @@ fn entry_index(
     ensures read { Gives_value (λ x. x) result (used_index section offset used table.now k) }
     ensures within { IfOk result (λ _. k < length table.now) }
     ensures no_memory { IfErr result (λ e. ¬ IsMemory e) }
-    ensures known { IfOk result (λ x. (counts : List ℕ) → All (IsEntry counts) table.now → x < get_or counts section 0) }
+    ensures known { IfOk result (λ x. (counts : List ℕ) → All (IsEntry counts) table.now
+        → x < get_or counts section 0) }
 {
     if k >= table.len() as u64 {
         return Err(ElementFault::Bad {
@@ -185,10 +200,11 @@ fn text_at<'a>(frame: &Frame<'a>, k: u32) -> &'a [u8]
 }
 
 impl<'a> ElementIn<'a> {
-    /// Reads the table at the front of an element's bytes, and stands at the first field of its data.
+    /// Reads the table at the front of an element's bytes, and stands at the first field of its
+    /// data.
     ///
-    /// `own` is the element's number, and `frame` gives the numbers of elements and the String elements; the bytes
-    /// need not stand in it. The fault is the first of the table.
+    /// `own` is the element's number, and `frame` gives the numbers of elements and the String
+    /// elements; the bytes need not stand in it. The fault is the first of the table.
     pub fn new(
         alloc: Global,
         bytes: &'a [u8],
@@ -324,7 +340,8 @@ impl<'a> ElementIn<'a> {
         }
     }
 
-    /// Reads the use of an element of a section, and gives the element's number there. Takes no memory.
+    /// Reads the use of an element of a section, and gives the element's number there. Takes no
+    /// memory.
     #[tactic(auto, using(crate::specs::Contexts::text_count), unfolding(crate::specs::Reading::use_in))]
     pub fn target(&mut self, s: Section) -> Result<u32, ElementFault>
         ensures read { Gives (λ n. n) result self.new (use_in (number_of s) self.old) }
@@ -342,7 +359,8 @@ impl<'a> ElementIn<'a> {
         Ok(index)
     }
 
-    /// Tests the end of an element: each entry of the table is used, and no byte is left. Takes no memory.
+    /// Tests the end of an element: each entry of the table is used, and no byte is left. Takes no
+    /// memory.
     pub fn finish(&mut self) -> Result<(), ElementFault>
         ensures read { Ends result (finish_in self.old) }
         ensures no_memory { IfErr result (λ e. ¬ IsMemory e) }

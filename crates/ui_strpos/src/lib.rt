@@ -1,8 +1,8 @@
 //! Elements of a container: the relocation table of an element, the calls that write and read its
 //! single fields, the trait of all elements, and the elements PosBase, Pkg and Name.
 //!
-//! The layout is this project's own, after `cmd/compile/internal/noder` of the Go tree. The grammar of
-//! an element is one value, its format (`specs/Format.antt`); encoding, decoding and the laws
+//! The layout is this project's own, after `cmd/compile/internal/noder` of the Go tree. The grammar
+//! of an element is one value, its format (`specs/Format.antt`); encoding, decoding and the laws
 //! are stated over it.
 #![tactic(auto)]
 

@@ -2,7 +2,8 @@ ghost use Rattle.std.specs.Prelude.{◌≡◌, ◌++◌, OnOk, IfOk, length};
 ghost use Rattle.ui_frame.specs.Number.{uint};
 ghost use Rattle.std.specs.List.{flat_map};
 ghost use Rattle.ui_frame.specs.Sections.{number_of};
-ghost use Rattle.ui_strpos.specs.Items.{with_item, nothing, spelled, place_in, after_use, entry, UInt, Int, Truth, Use};
+ghost use Rattle.ui_strpos.specs.Items.{with_item, nothing, spelled, place_in, after_use, entry};
+ghost use Rattle.ui_strpos.specs.Items.{UInt, Int, Truth, Use};
 
 use crate::target::{Table, Target};
 use indexmap::IndexSet;
@@ -39,7 +40,8 @@ fn place(table: &mut Table, target: Target) -> Result<usize, NoMemory>
 
 // Appends the spelling of a table.
 fn put_table(alloc: Global, out: &mut Vec<u8>, table: &[Target]) -> Result<(), NoMemory>
-    ensures { OnOk result (out.new.items ≡ out.old.items ++ (uint (length table.now) ++ flat_map entry table.now)) }
+    ensures { OnOk result (out.new.items ≡ out.old.items ++
+        (uint (length table.now) ++ flat_map entry table.now)) }
 {
     put_uint(alloc, out, table.len() as u64)?;
     for target in table {
@@ -81,7 +83,8 @@ impl ElementOut {
         put_bool(alloc, &mut self.bytes, b)
     }
 
-    /// Writes the use of element `k` of a section: the place of its entry, which is added if it is the first use.
+    /// Writes the use of element `k` of a section: the place of its entry, which is added if it is
+    /// the first use.
     pub fn target(&mut self, alloc: Global, s: Section, k: u32) -> Result<(), NoMemory>
         ensures { OnOk result (self.new ≡ with_item self.old (Use (number_of s) k)) }
     {

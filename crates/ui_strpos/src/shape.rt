@@ -1,4 +1,5 @@
-/// What an Obj and an ObjExt are read by beside their own bytes. The other elements don't look at it.
+/// What an Obj and an ObjExt are read by beside their own bytes. The other elements don't look at
+/// it.
 #[derive(Clone, Copy, Debug, PartialEq, Eq, Drop)]
 pub struct Shape {
     /// The code in the Name of the same number.

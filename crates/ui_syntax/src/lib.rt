@@ -1,4 +1,5 @@
-//! Readers of expressions and types as definitions, with the laws that they read exactly the forms of the grammar.
+//! Readers of expressions and types as definitions, with the laws that they read exactly the forms
+//! of the grammar.
 #![tactic(auto)]
 
 mod laws;

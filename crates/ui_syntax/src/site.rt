@@ -18,7 +18,8 @@ pub enum TypeSite {
     Plain,
     /// A method or a union, in an interface.
     Element,
-    /// At the front of an operand, where names, `*` and parentheses begin expressions. `[...]T` is taken.
+    /// At the front of an operand, where names, `*` and parentheses begin expressions. `[...]T` is
+    /// taken.
     Operand,
     /// Such an operand where the type may stand for itself, but `[...]T` not.
     Argument,

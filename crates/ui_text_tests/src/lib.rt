@@ -1,4 +1,5 @@
-//! Tests of texts: names and paths, the tokens of sources, and the sources of a package. Nothing stands here but tests.
+//! Tests of texts: names and paths, the tokens of sources, and the sources of a package. Nothing
+//! stands here but tests.
 #![tactic(auto)]
 
 #[cfg(test)]

@@ -3,7 +3,8 @@ ghost use Rattle.std.specs.Prelude.{◌≡◌, ◌≤◌, IfOk, OnErr, IsErrOf, 
 ghost use Rattle.ui_store.specs.Causes.{Rose};
 ghost use Rattle.ui_store.specs.Told.{more};
 ghost use Rattle.ui_store.specs.Sinks.{Partly};
-ghost use Rattle.ui_top.specs.Answers.{answer, answer_about, answers, are_answered, asked_name, named, no_such, show, value_of};
+ghost use Rattle.ui_top.specs.Answers.{answer, answer_about, answers, are_answered, asked_name};
+ghost use Rattle.ui_top.specs.Answers.{named, no_such, show, value_of};
 ghost use Rattle.ui_top.specs.Outcome.{words_of};
 
 use itoa::Buffer;

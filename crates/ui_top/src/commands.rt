@@ -3,7 +3,8 @@ ghost use Rattle.std.specs.Prelude.{◌≡◌, ℕ, None, Some, option_map};
 ghost use Rattle.ui_store.specs.Views.{SourceView};
 ghost use Rattle.ui_top.specs.Invocations.{command_as};
 ghost use Rattle.ui_top.specs.Ends.{EndsBy};
-ghost use Rattle.ui_top.specs.Outcome.{Command, Build, Dump, command_at, command_of, words_of, usage};
+ghost use Rattle.ui_top.specs.Outcome.{Command, Build, Dump, command_at, command_of, words_of};
+ghost use Rattle.ui_top.specs.Outcome.{usage};
 ghost use Rattle.ui_top.specs.Scene.{scene, Runs, RunsUsage, Completes};
 
 use crate::answers::answer_all;
@@ -109,10 +110,11 @@ fn command_of(words: &[String]) -> Option<Invocation<'_>>
 const USAGE: &[u8] =
     b"usage: goui build PATH [QUERY]... | compile PATH | link PATH | dump PATH [QUERY]... | ask PATH | frame NAME | gen N\n";
 
-/// Does what the words say, over a store, a source and two sinks: answers go to `out`, and a fault's one line to `err`.
+/// Does what the words say, over a store, a source and two sinks: answers go to `out`, and a
+/// fault's one line to `err`.
 ///
-/// The commands so far are `build PATH QUERY...`, of packages of constants that are sums, and `dump PATH QUERY...`, which
-/// answers from a linked file alone.
+/// The commands so far are `build PATH QUERY...`, of packages of constants that are sums, and `dump
+/// PATH QUERY...`, which answers from a linked file alone.
 pub fn run<S: Store, I: Source, O: Sink, E: Sink, L: Ledger>(
     alloc: Global,
     words: &[String],
@@ -127,7 +129,8 @@ pub fn run<S: Store, I: Source, O: Sink, E: Sink, L: Ledger>(
         (scene (S.told store.old) (I.told input.old) (O.told out.old) (E.told err.old) steps.old)
         (scene (S.told store.new) (I.told input.new) (O.told out.new) (E.told err.new) steps.new)
         result }
-    // The outcome by the sources alone, or by the file that is dumped, and the cause of each other end.
+    // The outcome by the sources alone, or by the file that is dumped, and the cause of each other
+    // end.
     ensures runs { (c : Command) → command_of (words_of words.now) ≡ Some c → Runs c
         (scene (S.told store.old) (I.told input.old) (O.told out.old) (E.told err.old) steps.old)
         (scene (S.told store.new) (I.told input.new) (O.told out.new) (E.told err.new) steps.new)

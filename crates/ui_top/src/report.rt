@@ -5,7 +5,8 @@ ghost use Rattle.ui_store.specs.Causes.{HasCause};
 ghost use Rattle.ui_store.specs.Told.{more};
 ghost use Rattle.ui_store.specs.Sinks.{Partly};
 ghost use Rattle.ui_top.specs.Scene.{Says};
-ghost use Rattle.ui_top.specs.Outcome.{refused_as, refusal_line, frame_end, place, name_end, line_at, stale_line};
+ghost use Rattle.ui_top.specs.Outcome.{refused_as, refusal_line, frame_end, place, name_end};
+ghost use Rattle.ui_top.specs.Outcome.{line_at, stale_line};
 ghost use Rattle.ui_top.specs.Ends.{stop_line, status_of, answers_line, answers_status};
 ghost use Rattle.ui_build.specs.Stops.{refusal_of};
 

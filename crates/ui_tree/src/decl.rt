@@ -6,7 +6,8 @@ use crate::stmt::{Block, CommonTree, StmtTree};
 use sqlite_items::{Boxed, Items};
 use ui_base::{Spot, Text};
 
-/// An import: the name that it is given, if any, and its path. Go specification, "Import declarations".
+/// An import: the name that it is given, if any, and its path. Go specification, "Import
+/// declarations".
 #[derive(Drop)]
 pub struct ImportSpec {
     pub name: Option<Placed>,
@@ -19,7 +20,8 @@ pub struct ImportTree {
     pub specs: Specs<ImportSpec>,
 }
 
-/// A type declaration's name, its parameters, and whether it is an alias. Go specification, "Type declarations".
+/// A type declaration's name, its parameters, and whether it is an alias. Go specification, "Type
+/// declarations".
 #[derive(Drop)]
 pub struct TypeSpec {
     pub name: Placed,
@@ -28,8 +30,8 @@ pub struct TypeSpec {
     pub of: TypeExpr,
 }
 
-/// A method's receiver: its name, whether it is a pointer, its type's name and that type's parameters. Go
-/// specification, "Method declarations".
+/// A method's receiver: its name, whether it is a pointer, its type's name and that type's
+/// parameters. Go specification, "Method declarations".
 #[derive(Drop)]
 pub struct Receiver {
     pub spot: Spot,

@@ -3,7 +3,8 @@
 ghost use Rattle.std.specs.Prelude.{◌≡◌, map};
 ghost use Rattle.std.specs.Option.{option_map};
 ghost use Rattle.ui_tree.specs.Tree as tree;
-ghost use Rattle.ui_tree.specs.View.{view, type_view, kept, trees, types, groups, maybe, maybe_type, type_args, names, group_with};
+ghost use Rattle.ui_tree.specs.View.{view, type_view, kept, trees, types, groups, maybe};
+ghost use Rattle.ui_tree.specs.View.{maybe_type, type_args, names, group_with};
 
 use crate::expr::{ExprTree, TypeExpr};
 use crate::part::{Group, LiteralKind, Placed, PrefixOp, Sig};
@@ -13,21 +14,26 @@ use ui_base::{BinOp, Spot, Value};
 impl TypeExpr {
     #[tactic(auto, using(crate::specs::Views::seen_Named))]
     pub fn named(name: Placed, member: Option<Placed>, args: Option<Items<TypeExpr>>) -> TypeExpr
-        ensures { type_view result ≡ tree.named name member (type_args (option_map (map type_view) args)) }
+        ensures { type_view result ≡ tree.named name member
+            (type_args (option_map (map type_view) args)) }
     {
         TypeExpr::Named { name, member, args }
     }
 
     #[tactic(auto, using(crate::specs::Views::seen_Func))]
     pub fn func(spot: Spot, sig: Sig<Boxed<TypeExpr>>) -> TypeExpr
-        ensures { type_view result ≡ tree.func spot (groups kept (map (group_with type_view) sig.params)) (maybe_type (option_map type_view sig.results)) }
+        ensures { type_view result ≡ tree.func spot
+            (groups kept (map (group_with type_view) sig.params))
+            (maybe_type (option_map type_view sig.results)) }
     {
         TypeExpr::Func { spot, sig }
     }
 
     #[tactic(auto, using(crate::specs::Views::seen_Method))]
     pub fn method(name: Placed, sig: Sig<Boxed<TypeExpr>>) -> TypeExpr
-        ensures { type_view result ≡ tree.method name (groups kept (map (group_with type_view) sig.params)) (maybe_type (option_map type_view sig.results)) }
+        ensures { type_view result ≡ tree.method name
+            (groups kept (map (group_with type_view) sig.params))
+            (maybe_type (option_map type_view sig.results)) }
     {
         TypeExpr::Method { name, sig }
     }
@@ -97,14 +103,16 @@ impl TypeExpr {
 
     #[tactic(auto, using(crate::specs::Views::seen_Struct))]
     pub fn structure(spot: Spot, fields: Items<Group<Boxed<TypeExpr>>>) -> TypeExpr
-        ensures { type_view result ≡ tree.struct spot (groups kept (map (group_with type_view) fields)) }
+        ensures { type_view result ≡ tree.struct spot
+            (groups kept (map (group_with type_view) fields)) }
     {
         TypeExpr::Struct { spot, fields }
     }
 
     #[tactic(auto, using(crate::specs::Views::seen_Listed))]
     pub fn listed(spot: Spot, results: Items<Group<Boxed<TypeExpr>>>) -> TypeExpr
-        ensures { type_view result ≡ tree.listed spot (groups kept (map (group_with type_view) results)) }
+        ensures { type_view result ≡ tree.listed spot
+            (groups kept (map (group_with type_view) results)) }
     {
         TypeExpr::Listed {
             spot,
@@ -238,7 +246,8 @@ impl ExprTree {
         high: Option<Boxed<ExprTree>>,
         max: Option<Boxed<ExprTree>>,
     ) -> ExprTree
-        ensures { view result ≡ tree.sliced spot (view of) (maybe (option_map view low)) (maybe (option_map view high)) (maybe (option_map view max)) }
+        ensures { view result ≡ tree.sliced spot (view of) (maybe (option_map view low))
+            (maybe (option_map view high)) (maybe (option_map view max)) }
     {
         ExprTree::Sliced {
             spot,

@@ -35,8 +35,8 @@ pub enum LiteralKind {
     Text,
 }
 
-/// Names with one type: fields, parameters, or type parameters with their bound. A parameter without a name is a group of
-/// no names.
+/// Names with one type: fields, parameters, or type parameters with their bound. A parameter
+/// without a name is a group of no names.
 #[derive(Drop)]
 pub struct Group<T> {
     pub names: Items<Placed>,

@@ -2,7 +2,8 @@
 
 ghost use Rattle.std.specs.Prelude.{◌≡◌, ◌↔◌, IsTrue, map};
 ghost use Rattle.std.specs.Option.{option_map};
-ghost use Rattle.ui_tree.specs.View.{shape, type_shape, forgotten, placed, placed_maybe, names, maybe, maybe_type, trees, types, groups, group_with};
+ghost use Rattle.ui_tree.specs.View.{shape, type_shape, forgotten, placed, placed_maybe, names};
+ghost use Rattle.ui_tree.specs.View.{maybe, maybe_type, trees, types, groups, group_with};
 
 use crate::expr::{ExprTree, TypeExpr};
 use crate::part::{Group, Placed};
@@ -105,7 +106,8 @@ fn same_types(a: &[TypeExpr], b: &[TypeExpr]) -> bool
 
 #[cycle(same)]
 fn same_maybe_type(a: &Option<Boxed<TypeExpr>>, b: &Option<Boxed<TypeExpr>>) -> bool
-    ensures { IsTrue result ↔ (maybe_type (option_map type_shape a.now) ≡ maybe_type (option_map type_shape b.now)) }
+    ensures { IsTrue result ↔ (maybe_type (option_map type_shape a.now)
+        ≡ maybe_type (option_map type_shape b.now)) }
 {
     match a {
         None => b.is_none(),
@@ -118,7 +120,8 @@ fn same_maybe_type(a: &Option<Boxed<TypeExpr>>, b: &Option<Boxed<TypeExpr>>) -> 
 
 #[cycle(same)]
 fn same_groups(a: &[Group<Boxed<TypeExpr>>], b: &[Group<Boxed<TypeExpr>>]) -> bool
-    ensures { IsTrue result ↔ (groups forgotten (map (group_with type_shape) a.now) ≡ groups forgotten (map (group_with type_shape) b.now)) }
+    ensures { IsTrue result ↔ (groups forgotten (map (group_with type_shape) a.now)
+        ≡ groups forgotten (map (group_with type_shape) b.now)) }
 {
     if a.len() != b.len() {
         return false;

@@ -5,8 +5,8 @@ use crate::part::{Placed, Specs};
 use sqlite_items::{Boxed, Items};
 use ui_base::{BinOp, Spot};
 
-/// Constants or variables with their type and their values, of which either may be left out. Go specification,
-/// "Constant declarations" and "Variable declarations".
+/// Constants or variables with their type and their values, of which either may be left out. Go
+/// specification, "Constant declarations" and "Variable declarations".
 #[derive(Drop)]
 pub struct ValueSpec {
     pub names: Items<Placed>,
@@ -29,7 +29,8 @@ pub struct Block<S> {
     pub close: Spot,
 }
 
-/// A clause of a switch: its values, or none for `default`. Go specification, "Expression switches".
+/// A clause of a switch: its values, or none for `default`. Go specification, "Expression
+/// switches".
 #[derive(Drop)]
 pub struct Clause<S> {
     pub spot: Spot,
@@ -37,7 +38,8 @@ pub struct Clause<S> {
     pub stmts: Items<S>,
 }
 
-/// What stands before `range`: the places, and whether they are defined there. Go specification, "For statements".
+/// What stands before `range`: the places, and whether they are defined there. Go specification,
+/// "For statements".
 #[derive(Drop)]
 pub struct RangePlaces {
     pub places: Items<ExprTree>,

@@ -1,5 +1,5 @@
-//! Tests of trees and of the parsers: what is read, as one printer writes it, and where a fault stands. Nothing stands
-//! here but tests.
+//! Tests of trees and of the parsers: what is read, as one printer writes it, and where a fault
+//! stands. Nothing stands here but tests.
 #![tactic(auto)]
 
 #[cfg(test)]

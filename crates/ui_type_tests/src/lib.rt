@@ -1,5 +1,5 @@
-//! Tests of types and constants: interned nodes, substitution, underlying types, and arithmetic at its limits. Nothing
-//! stands here but tests.
+//! Tests of types and constants: interned nodes, substitution, underlying types, and arithmetic at
+//! its limits. Nothing stands here but tests.
 #![tactic(auto)]
 
 #[cfg(test)]

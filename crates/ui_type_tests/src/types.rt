@@ -121,7 +121,8 @@ fn sample(
     }
 }
 
-// Whether a node of this kind over two parameters is interned once, and becomes the same node over two types.
+// Whether a node of this kind over two parameters is interned once, and becomes the same node over
+// two types.
 fn is_kept(
     alloc: Global,
     table: &mut TypeTable,
@@ -198,7 +199,8 @@ fn pointers(
     Ok(made)
 }
 
-// A chain of fifteen pairs is the largest, and is substituted by its sixteen ids and not by its tree.
+// A chain of fifteen pairs is the largest, and is substituted by its sixteen ids and not by its
+// tree.
 #[test]
 fn sizes_to_the_limit(rt: HostRuntime) -> Result<(), Fail> {
     let alloc = rt.alloc();
@@ -276,7 +278,8 @@ fn declare(
     text: &[u8],
     face: Face,
 ) -> Result<(), NoMemory>
-    ensures { (table : Table) → AreDecls table decls.old.items → IsFace table face → AreDecls table decls.new.items }
+    ensures { (table : Table) → AreDecls table decls.old.items → IsFace table face
+        → AreDecls table decls.new.items }
 {
     let name = name(alloc, text)?;
     let pos = Pos {
@@ -366,7 +369,8 @@ fn is_under<E: Env>(
     Ok(table.same(under, wanted))
 }
 
-// Whether `T[args]` has this underlying type, where `T` is declared so over a pointer to its parameter.
+// Whether `T[args]` has this underlying type, where `T` is declared so over a pointer to its
+// parameter.
 fn is_under_declared(
     alloc: Global,
     table: &mut TypeTable,
@@ -386,8 +390,8 @@ fn is_under_declared(
     is_under(alloc, &mut env, table, t, wanted)
 }
 
-// The underlying type of a defined type with its argument is that with the argument put in. With another number of
-// arguments, or declared as anything else, it is the empty struct.
+// The underlying type of a defined type with its argument is that with the argument put in. With
+// another number of arguments, or declared as anything else, it is the empty struct.
 #[test]
 fn underlying_types(rt: HostRuntime) -> Result<(), Fail> {
     let alloc = rt.alloc();

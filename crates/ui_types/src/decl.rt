@@ -34,8 +34,8 @@ impl Part for TParam {
     }
 }
 
-/// A method of a defined type: whether its receiver is a pointer, and its signature without the receiver. The name has
-/// the empty path exactly where it is exported.
+/// A method of a defined type: whether its receiver is a pointer, and its signature without the
+/// receiver. The name has the empty path exactly where it is exported.
 #[derive(Drop)]
 pub struct MethodFace {
     pub name: Name,

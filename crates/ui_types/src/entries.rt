@@ -1,6 +1,8 @@
-ghost use Rattle.std.specs.Prelude.{◌≡◌, ◌<◌, Some, ◌+◌, [], ◌∷◌, ◌++◌, length, slice_get, IfOk, IfSome, IfNone, OnOk, OnErr};
+ghost use Rattle.std.specs.Prelude.{◌≡◌, ◌<◌, Some, ◌+◌, [], ◌∷◌, ◌++◌, length, slice_get, IfOk};
+ghost use Rattle.std.specs.Prelude.{IfSome, IfNone, OnOk, OnErr};
 ghost use Rattle.indexmap.specs.IndexMap.{index_map_len};
-ghost use Rattle.ui_types.specs.Entries.{IsTable, trees_of, IsExtentOf, IsEntryOf, IsFresh, HasNode};
+ghost use Rattle.ui_types.specs.Entries.{IsTable, trees_of, IsExtentOf, IsEntryOf, IsFresh};
+ghost use Rattle.ui_types.specs.Entries.{HasNode};
 ghost use Rattle.ui_types.specs.Ty.{sizes, depths};
 ghost use Rattle.ui_types.specs.Table.{AreIds, IsNode, parts, shown, counted_size, counted_depth};
 
@@ -30,8 +32,10 @@ pub fn entry_of(entries: &Entries, t: TypeId) -> (&TypeNode, &Extent)
 fn parts_extent(entries: &Entries, ids: &[TypeId]) -> Extent
     requires table { IsTable entries.now.entries }
     requires valid { AreIds (trees_of entries.now.entries) ids.now }
-    ensures size { result.size ≡ counted_size (sizes (parts (trees_of entries.now.entries) ids.now)) }
-    ensures depth { result.depth ≡ counted_depth (depths (parts (trees_of entries.now.entries) ids.now)) }
+    ensures size { result.size ≡ counted_size
+        (sizes (parts (trees_of entries.now.entries) ids.now)) }
+    ensures depth { result.depth ≡ counted_depth
+        (depths (parts (trees_of entries.now.entries) ids.now)) }
 {
     let mut size: u64 = 0;
     let mut depth: u32 = 0;
@@ -71,7 +75,8 @@ pub fn add(entries: &mut Entries, node: TypeNode, extent: Extent) -> Result<(), 
     requires entry { IsEntryOf (trees_of entries.old.entries) (node, extent) }
     requires fresh { IsFresh entries.old.entries node }
     ensures table { IsTable entries.new.entries }
-    ensures ok { OnOk result (trees_of entries.new.entries ≡ trees_of entries.old.entries ++ shown (trees_of entries.old.entries) node ∷ []) }
+    ensures ok { OnOk result (trees_of entries.new.entries ≡ trees_of entries.old.entries ++ shown
+        (trees_of entries.old.entries) node ∷ []) }
     ensures err { OnErr result (trees_of entries.new.entries ≡ trees_of entries.old.entries) }
 {
     entries.insert(node, extent)?;

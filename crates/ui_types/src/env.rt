@@ -1,6 +1,8 @@
 ghost use Rattle.std.specs.Prelude.{◌≡◌, ℕ, List, [], ◌∷◌, IfOk, IfSome, codes, option_map};
 ghost use Rattle.ui_types.specs.Table.{Table, IsId, AreIds, Grows, Denotes, Makes, tree, trees};
-ghost use Rattle.ui_types.specs.Decls.{Packages, DeclTrees, find_package, find_decl, IsDecl, IsAnswer, shown_decl, error_name, error_type, name_eq, under, under_name, under_decl};
+ghost use Rattle.ui_types.specs.Decls.{Packages, DeclTrees, find_package, find_decl, IsDecl};
+ghost use Rattle.ui_types.specs.Decls.{IsAnswer, shown_decl, error_name, error_type, name_eq};
+ghost use Rattle.ui_types.specs.Decls.{under, under_name, under_decl};
 ghost use Rattle.ui_types.specs.Kept.{Kept, KeptEverywhere};
 
 use crate::decl::{Decl, Face};
@@ -40,11 +42,13 @@ pub trait Env {
         name: &Name,
     ) -> Result<Option<Decl>, NoMemory>
         requires { fits self.old table.old }
-        ensures answer { IfOk result (IsAnswer table.new (find_decl (decls self.old table.old) name.now)) }
+        ensures answer { IfOk result (IsAnswer table.new
+            (find_decl (decls self.old table.old) name.now)) }
         ensures kept { Kept packages lent decls fits self.old table.old self.new table.new };
 
     /// A table that grows changes nothing.
-    ghost stays: { (s : Self) (t u : Table) → Grows t u → fits s t → fits s u × (decls s u ≡ decls s t) };
+    ghost stays: { (s : Self) (t u : Table) → Grows t u → fits s t
+        → fits s u × (decls s u ≡ decls s t) };
 }
 
 fn one_id(alloc: Global, id: TypeId) -> Result<Ids, NoMemory>
@@ -115,7 +119,8 @@ fn under_found(
 ) -> Result<TypeId, TypeFault>
     requires found { IfSome found.now (IsDecl table.old) }
     requires arguments { AreIds table.old args.now }
-    ensures made { Makes table.new (under_decl (option_map (shown_decl table.old) found.now) (trees table.old args.now)) result }
+    ensures made { Makes table.new (under_decl (option_map (shown_decl table.old) found.now)
+        (trees table.old args.now)) result }
     ensures grows { Grows table.old table.new }
 {
     if let Some(decl) = found {
@@ -144,7 +149,8 @@ fn under_named<E: Env>(
 ) -> Result<TypeId, TypeFault>
     requires env { E.fits env.old table.old }
     requires arguments { AreIds table.old args.now }
-    ensures made { Makes table.new (under_name (E.decls env.old table.old) name.now (trees table.old args.now)) result }
+    ensures made { Makes table.new (under_name (E.decls env.old table.old) name.now
+        (trees table.old args.now)) result }
     ensures kept { Kept E.packages E.lent E.decls E.fits env.old table.old env.new table.new }
 {
     if is_error(name) {
@@ -156,8 +162,9 @@ fn under_named<E: Env>(
     }
 }
 
-/// The underlying type in this environment. It is refused exactly where that type's tree is past a limit, which only
-/// that of a declared type with arguments can be. Go specification, "Underlying types".
+/// The underlying type in this environment. It is refused exactly where that type's tree is past a
+/// limit, which only that of a declared type with arguments can be. Go specification, "Underlying
+/// types".
 #[tactic(auto, using(crate::specs::Trees::growth))]
 pub fn underlying<E: Env>(
     alloc: Global,

@@ -1,6 +1,7 @@
 ghost use Rattle.std.specs.Prelude.{◌≡◌, [], IfOk, IfSome, option_map, List};
 ghost use Rattle.ui_types.specs.Table.{Table};
-ghost use Rattle.ui_types.specs.Decls.{find_package, find_decl, shown_decls, shown_decl, AreDecls, IsDecl, IsAnswer};
+ghost use Rattle.ui_types.specs.Decls.{find_package, find_decl, shown_decls, shown_decl, AreDecls};
+ghost use Rattle.ui_types.specs.Decls.{IsDecl, IsAnswer};
 ghost use Rattle.ui_types.specs.Stays.{decls_stay};
 
 use crate::decl::{Decl, Decls};
@@ -17,7 +18,8 @@ pub struct ListEnv {
 }
 
 impl ListEnv {
-    /// The environment of these paths with their package names and of these declarations; of equal ones the first counts.
+    /// The environment of these paths with their package names and of these declarations; of equal
+    /// ones the first counts.
     pub fn new(packages: Vec<(Text, Text)>, decls: Decls) -> ListEnv
         ensures packages { result.packages ≡ packages }
         ensures decls { result.decls ≡ decls }
@@ -40,8 +42,10 @@ fn find_name<'a>(packages: &'a [(Text, Text)], path: &Text) -> Option<&'a Text>
 
 // The declaration of the name, the first that there is.
 fn find<'a>(decls: &'a [(Name, Decl)], name: &Name) -> Option<&'a Decl>
-    ensures valid { (table : Table) → AreDecls table decls.now → IfSome result (λ d. IsDecl table d.now) }
-    ensures value { (table : Table) → option_map (λ d. shown_decl table d.now) result ≡ find_decl (shown_decls table decls.now) name.now }
+    ensures valid { (table : Table) → AreDecls table decls.now
+        → IfSome result (λ d. IsDecl table d.now) }
+    ensures value { (table : Table) → option_map (λ d. shown_decl table d.now) result
+        ≡ find_decl (shown_decls table decls.now) name.now }
 {
     for (found, decl) in decls {
         if *found == *name {

@@ -13,8 +13,8 @@ pub struct Made {
     pub id: Option<TypeId>,
 }
 
-/// What the parts of a type have become: the sum of their sizes, the depth of the deepest, and their ids, all of them
-/// where they are within the limits together.
+/// What the parts of a type have become: the sum of their sizes, the depth of the deepest, and
+/// their ids, all of them where they are within the limits together.
 #[derive(Drop)]
 pub struct MadeParts {
     pub extent: Extent,

@@ -90,7 +90,8 @@ fn iface_with(
     unions: &[TypeId],
 ) -> Result<TypeNode, NoMemory>
     requires { length sigs.now ≡ length methods.now }
-    ensures { IfOk result (λ n. n ≡ node.Iface (with_types (λ m t. record m { sig = t }) methods.now sigs.now) comparable unions.now) }
+    ensures { IfOk result (λ n. n ≡ node.Iface
+        (with_types (λ m t. record m { sig = t }) methods.now sigs.now) comparable unions.now) }
 {
     let unions = ids_from(alloc, unions)?;
     let methods = parts_with(alloc, methods, sigs)?;

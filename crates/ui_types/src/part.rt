@@ -70,7 +70,8 @@ impl Part for Field {
     }
 }
 
-/// A method of an interface, with its signature. The name has the empty path exactly where it is exported.
+/// A method of an interface, with its signature. The name has the empty path exactly where it is
+/// exported.
 #[derive(Drop, PartialEq, Eq, Hash)]
 pub struct Method {
     pub name: Name,

@@ -1,6 +1,7 @@
 ghost use Rattle.std.specs.Prelude.{◌≡◌, IfOk, length};
 ghost use Rattle.ui_types.specs.Ty.{param, subst, substs};
-ghost use Rattle.ui_types.specs.Table.{IsId, AreIds, IsNode, Grows, Denotes, IsWithinLimits, shown, tree, trees, parts};
+ghost use Rattle.ui_types.specs.Table.{IsId, AreIds, IsNode, Grows, Denotes, IsWithinLimits, shown};
+ghost use Rattle.ui_types.specs.Table.{tree, trees, parts};
 ghost use Rattle.ui_types.specs.Nodes.{ids_of, node_with};
 ghost use Rattle.ui_types.specs.Entries.{IsExtentOf};
 ghost use Rattle.ui_types.specs.Made.{IsMade, AreMade, IsMemo};
@@ -84,7 +85,8 @@ fn rebuilt(
     })
 }
 
-/// What the type becomes with the arguments in the places of its parameters, looked up where it is done already.
+/// What the type becomes with the arguments in the places of its parameters, looked up where it is
+/// done already.
 #[cycle(substituted)]
 pub fn substituted(
     alloc: Global,
@@ -96,7 +98,8 @@ pub fn substituted(
     requires id { IsId table.old t }
     requires arguments { AreIds table.old args.now }
     requires memo { IsMemo table.old (trees table.old args.now) memo.old }
-    ensures made { IfOk result (IsMade table.new (subst (trees table.old args.now) (tree table.old t))) }
+    ensures made { IfOk result (IsMade table.new
+        (subst (trees table.old args.now) (tree table.old t))) }
     ensures memo { IsMemo table.new (trees table.old args.now) memo.new }
     ensures grows { Grows table.old table.new }
 {
@@ -119,7 +122,8 @@ fn substituted_anew(
     requires id { IsId table.old t }
     requires arguments { AreIds table.old args.now }
     requires memo { IsMemo table.old (trees table.old args.now) memo.old }
-    ensures made { IfOk result (IsMade table.new (subst (trees table.old args.now) (tree table.old t))) }
+    ensures made { IfOk result (IsMade table.new
+        (subst (trees table.old args.now) (tree table.old t))) }
     ensures memo { IsMemo table.new (trees table.old args.now) memo.new }
     ensures grows { Grows table.old table.new }
 {
@@ -150,7 +154,8 @@ fn all_substituted(
     requires ids { AreIds table.old ids.now }
     requires arguments { AreIds table.old args.now }
     requires memo { IsMemo table.old (trees table.old args.now) memo.old }
-    ensures made { IfOk result (AreMade table.new (substs (trees table.old args.now) (parts table.old ids.now))) }
+    ensures made { IfOk result (AreMade table.new
+        (substs (trees table.old args.now) (parts table.old ids.now))) }
     ensures memo { IsMemo table.new (trees table.old args.now) memo.new }
     ensures grows { Grows table.old table.new }
 {

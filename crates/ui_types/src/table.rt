@@ -1,7 +1,8 @@
 ghost use Rattle.std.specs.Prelude.{◌≡◌, ◌<◌, ◌≤◌, ◌↔◌, [], IsTrue, MatchResult};
 ghost use Rattle.ui_types.specs.declared.id.TypeId.{TypeId};
 ghost use Rattle.ui_types.specs.Ty.{size, depth, subst};
-ghost use Rattle.ui_types.specs.Table.{IsId, AreIds, IsNode, Grows, IsWithinLimits, IsFaultOf, Makes, shown, tree, trees};
+ghost use Rattle.ui_types.specs.Table.{IsId, AreIds, IsNode, Grows, IsWithinLimits, IsFaultOf};
+ghost use Rattle.ui_types.specs.Table.{Makes, shown, tree, trees};
 ghost use Rattle.ui_types.specs.Entries.{IsTable, IsEntryOf, trees_of};
 
 use crate::entries::{Entries, add, entry_of, extent_of, find};
@@ -15,8 +16,8 @@ use indexmap::IndexMap;
 use std::alloc::Global;
 use std::marker::Model;
 
-/// Types as numbered nodes, each once. Contracts see a table as the list of its trees, in which an id is a place. Each
-/// tree has at most 65,536 nodes and a depth of at most 256.
+/// Types as numbered nodes, each once. Contracts see a table as the list of its trees, in which an
+/// id is a place. Each tree has at most 65,536 nodes and a depth of at most 256.
 #[derive(Drop)]
 pub struct TypeTable {
     entries: Entries,
@@ -101,7 +102,8 @@ impl TypeTable {
         extent.depth
     }
 
-    /// Whether the types are identical, which they are exactly where they are one id. Go specification, "Type identity".
+    /// Whether the types are identical, which they are exactly where they are one id. Go
+    /// specification, "Type identity".
     pub fn same(&self, a: TypeId, b: TypeId) -> bool
         requires a_in { IsId self.now a }
         requires b_in { IsId self.now b }
@@ -114,13 +116,14 @@ impl TypeTable {
 
     /// Equal trees have equal ids.
     pub fn once(&self)
-        ensures { (a b : TypeId) → IsId self.now a → IsId self.now b → tree self.now a ≡ tree self.now b → a ≡ b }
+        ensures { (a b : TypeId) → IsId self.now a → IsId self.now b
+            → tree self.now a ≡ tree self.now b → a ≡ b }
     {
         let _ = &self.entries;
     }
 
-    /// The id of the node's type, which is added where the table lacks it. It is refused exactly where its tree has
-    /// more than 65,536 nodes, else where its depth is past 256.
+    /// The id of the node's type, which is added where the table lacks it. It is refused exactly
+    /// where its tree has more than 65,536 nodes, else where its depth is past 256.
     pub fn intern(&mut self, alloc: Global, node: TypeNode) -> Result<TypeId, TypeFault>
         requires { IsNode self.old node }
         ensures made { Makes self.new (shown self.old node) result }
@@ -138,9 +141,9 @@ impl TypeTable {
         Ok(TypeId(k))
     }
 
-    /// The type with the arguments in the places of its type parameters; one without an argument stays. It is refused
-    /// exactly where the resulting tree has more than 65,536 nodes, else where its depth is past 256. Each type that
-    /// `t` is made of is done once, however often it occurs.
+    /// The type with the arguments in the places of its type parameters; one without an argument
+    /// stays. It is refused exactly where the resulting tree has more than 65,536 nodes, else where
+    /// its depth is past 256. Each type that `t` is made of is done once, however often it occurs.
     pub fn subst(&mut self, alloc: Global, t: TypeId, args: &[TypeId]) -> Result<TypeId, TypeFault>
         requires id { IsId self.old t }
         requires arguments { AreIds self.old args.now }

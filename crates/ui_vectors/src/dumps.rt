@@ -6,7 +6,8 @@ use std::test::Fail;
 use ui_store::{AskKind, MemStore};
 use ui_top::Status;
 
-// A store that holds nothing but so many bytes of the worked file, if any, as the linked file of a package.
+// A store that holds nothing but so many bytes of the worked file, if any, as the linked file of a
+// package.
 fn store_of(alloc: Global, name: &str, length: Option<usize>) -> Result<MemStore, Fail> {
     let mut store = MemStore::new(alloc, Vec::new(alloc), 0);
     if let Some(length) = length {

@@ -172,7 +172,8 @@ const OF_Q_R: File = ("src/q/r/r.go", "package r\n");
 
 const OF_Z: File = ("src/z/z.go", "package z\n");
 
-// What is found is what the imports name by path, whatever stands before or behind them; nothing where a file has a fault.
+// What is found is what the imports name by path, whatever stands before or behind them; nothing
+// where a file has a fault.
 const FOUND: &[Row] = &[
     (
         &[IMPORTING],

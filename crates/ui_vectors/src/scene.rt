@@ -68,7 +68,8 @@ fn run_counted<S: Store, L: Ledger>(
     Ok(Ended { status, out, err })
 }
 
-/// Runs the words over a store, with a sink for answers that has so much room and fails at these calls.
+/// Runs the words over a store, with a sink for answers that has so much room and fails at these
+/// calls.
 pub fn run_with<S: Store>(
     alloc: Global,
     words: &[&str],

@@ -215,7 +215,8 @@ fn put_hub(alloc: Global, store: &mut MemStore, hub: u32, leaves: u32) -> Result
     Ok(())
 }
 
-// A package that imports four packages, which import so many, of which the first compiled is no file.
+// A package that imports four packages, which import so many, of which the first compiled is no
+// file.
 fn wide(alloc: Global, leaves: u32) -> Result<MemStore, AllocError> {
     let root = "package r\nimport \"h0\"\nimport \"h1\"\nimport \"h2\"\nimport \"h3\"\n";
     let mut store = store_of(alloc, &[("src/r/r.go", root)])?;
