@@ -1,0 +1,2 @@
+pub mod PairsLocal
+pub mod BindingsLocal
