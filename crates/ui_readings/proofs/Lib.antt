@@ -1,3 +1,4 @@
+mod AliasesOnly
 mod AliasesStand
 mod WayBack
 mod LengthTexts

@@ -29,7 +29,7 @@ use Rattle.ui_readings.proofs.TagsStand.{behind}
 
 -- ---- single words
 
-never : {X : Type 0} → false ≡ true → X
+pub never : {X : Type 0} → false ≡ true → X
 never e = absurd (false≢true e)
 
 brace_is : (w : Word) → is_kind (kind_at w) LBrace ≡ true → (s : Spot) × (w ≡ mark LBrace s)
@@ -46,7 +46,7 @@ struct_is (lit ARune s v) e = never e
 struct_is (lit Text s v) e = never e
 struct_is (mark k s) e = (s, ap (λ (x : TokenKind). mark x s) (same_kind k Struct e))
 
-semi_is : (w : Word) → is_kind (kind_at w) Semi ≡ true → (s : Spot) × (w ≡ mark Semi s)
+pub semi_is : (w : Word) → is_kind (kind_at w) Semi ≡ true → (s : Spot) × (w ≡ mark Semi s)
 semi_is (ident p) e = never e
 semi_is (lit Whole s v) e = never e
 semi_is (lit ARune s v) e = never e
@@ -60,7 +60,7 @@ record Braced (back : List Word) : Type 0 where
   before : List Word
   is : back ≡ mark LBrace brace_spot ∷ (mark Struct struct_spot ∷ before)
 
-two_words : (v w x y : Word) (ws : List Word) → v ≡ x → w ≡ y → (let a : List Word = v ∷ (w ∷ ws) in a) ≡ x ∷ (y ∷ ws)
+pub two_words : (v w x y : Word) (ws : List Word) → v ≡ x → w ≡ y → (let a : List Word = v ∷ (w ∷ ws) in a) ≡ x ∷ (y ∷ ws)
 two_words v w x y ws e f = cc
 
 braced : (back : List Word) → in_struct back ≡ true → Braced back
@@ -75,13 +75,13 @@ braced (v ∷ (w ∷ ws)) e =
 -- ---- the way back to a bracket
 
 -- the way over these words comes out at the bottom, or nothing stops it before the text's front
-abbrev Comes : ℕ → List Word → List Word → Type 0
+abbrev pub Comes : ℕ → List Word → List Word → Type 0
 Comes n passed bracket = (bracket ≡ []) ⊎ ((x : List Word) → opening false n (passed ++ x) ≡ opening false 0 x)
 
-record Stop (n : ℕ) (back : List Word) : Type 0 where
-  passed : List Word
-  whole : back ≡ passed ++ opening false n back
-  comes : Comes n passed (opening false n back)
+pub record Stop (n : ℕ) (back : List Word) : Type 0 where
+  pub passed : List Word
+  pub whole : back ≡ passed ++ opening false n back
+  pub comes : Comes n passed (opening false n back)
 
 by_next : (b : Bool) (n : ℕ) (w : Word) (ws : List Word) (o : Option ℕ) → next_level b n (kind_at w) ≡ o → opening b n (w ∷ ws) ≡ or_here o (w ∷ ws) (λ m. opening b m ws)
 by_next b n w ws o e = ap (λ (x : Option ℕ). or_here x (w ∷ ws) (λ m. opening b m ws)) e
@@ -114,7 +114,7 @@ stop_by n w ws go (Some m) e =
       comes = comes_on n m w p.passed (opening false n (w ∷ ws)) (opening false m ws) e on p.comes;
     }
 
-stop_at : (ws : List Word) (n : ℕ) → Stop n ws
+pub stop_at : (ws : List Word) (n : ℕ) → Stop n ws
 stop_at [] n = record { passed = []; whole = refl; comes = inl refl }
 stop_at (w ∷ ws) n = stop_by n w ws (λ m. stop_at ws m) (next_level false n (kind_at w)) refl
 
@@ -180,7 +180,7 @@ walk_at (w ∷ ws) n = step (λ m. walk_at ws m) (differ (closes (kind_at w)) (o
 
 -- ---- the field
 
-none_is : (ws : List Word) → none_left ws ≡ true → ws ≡ []
+pub none_is : (ws : List Word) → none_left ws ≡ true → ws ≡ []
 none_is [] e = refl
 none_is (w ∷ ws) e = never e
 

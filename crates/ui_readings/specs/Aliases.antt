@@ -1,7 +1,7 @@
 -- Where a `=` is that of an alias with type parameters. Go specification, "Alias declarations".
-use Rattle.std.specs.Prelude.{◌≡◌, ◌⊎◌, ◌≤◌, List, [], ◌∷◌, ◌++◌, Some}
+use Rattle.std.specs.Prelude.{◌≡◌, ◌⊎◌, ◌↔◌, ◌≤◌, List, [], ◌∷◌, ◌++◌, Some}
 use Rattle.ui_base.specs.declared.value.Spot.{Spot}
-use Rattle.ui_scan.specs.declared.kind.TokenKind.TheVariants.{LParen, LBracket, Semi, Assign, «Type» as AType}
+use Rattle.ui_scan.specs.declared.kind.TokenKind.TheVariants.{Ident, LParen, LBracket, Semi, Assign, «Type» as AType}
 use Rattle.ui_tree.specs.declared.part.Placed.{Placed}
 use Rattle.ui_tree.specs.Tree.{Groups}
 use Rattle.ui_tree.specs.Stmt.{TypeGroup}
@@ -10,7 +10,11 @@ use Rattle.ui_grammar.specs.Both.{is_length}
 use Rattle.ui_grammar.specs.Fits.{groups_depth}
 use Rattle.ui_grammar.specs.Declaration.{SpellsTypeParams, SpellsTypeGroup, FitsTypeParams}
 use Rattle.ui_pexpr.specs.declared.fault.Form.TheVariants.{GenericAlias}
+use Rattle.ui_pexpr.specs.Back.{kind_at}
 use Rattle.ui_pdecl.specs.Forms.{form_at}
+use Rattle.ui_readings.specs.Tags.{IsClosed, IsParted}
+
+-- ---- by the productions
 
 -- { TSpec ";" }: specifications, each with its semicolon
 abbrev pub SpellsTypeSpecs : List TypeGroup → List Word → List Word → Type 0
@@ -37,3 +41,31 @@ abbrev pub AliasesBehindParams : Type 0
 AliasesBehindParams =
     (before ts : List Word) (n : Placed) (b at : Spot) → BeginsType before → AreParams ts
     → form_at (before ++ ident n ∷ mark LBracket b ∷ ts) (mark Assign at) ≡ Some GenericAlias
+
+-- ---- exactly
+
+-- "type", or "type" "(" and words that leave no bracket open, which end with a semicolon where there
+-- are any
+abbrev pub BeginsSpec : List Word → Type 0
+BeginsSpec before =
+    ((front : List Word) × (s : Spot) × (before ≡ front ++ mark AType s ∷ []))
+    ⊎ ((front : List Word) × (middle : List Word) × (s : Spot) × (p : Spot)
+    × (before ≡ front ++ mark AType s ∷ mark LParen p ∷ middle) × IsClosed middle × IsParted middle)
+
+-- The words end with the parameters of a type: where a specification begins, a name stands, a
+-- bracket, and then parameters with the bracket that closes them.
+pub record IsBehindParams (front : List Word) : Type 0 where
+  pub before : List Word
+  pub name : Word
+  pub bracket_spot : Spot
+  pub params : List Word
+  pub whole : front ≡ before ++ name ∷ mark LBracket bracket_spot ∷ params
+  pub is_name : kind_at name ≡ Ident
+  pub begins : BeginsSpec before
+  pub are_params : AreParams params
+
+-- A word is that of a generic alias just where it is `=`, and the words before it end so.
+abbrev pub AliasesExactly : Type 0
+AliasesExactly =
+    (front : List Word) (w : Word)
+    → (form_at front w ≡ Some GenericAlias) ↔ ((kind_at w ≡ Assign) × IsBehindParams front)

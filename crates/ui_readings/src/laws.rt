@@ -1,7 +1,7 @@
 //! Laws, each a function whose contract is the statement.
 
 ghost use Rattle.ui_readings.specs.Lengths.{LengthsAreExpressions};
-ghost use Rattle.ui_readings.specs.Aliases.{AliasesBehindParams};
+ghost use Rattle.ui_readings.specs.Aliases.{AliasesBehindParams, AliasesExactly};
 ghost use Rattle.ui_readings.specs.Tags.{TagsBehindFields, TagsExactly};
 
 /// Behind `type N [`, type parameters up to the bracket are taken for an array's length just where
@@ -20,7 +20,10 @@ pub fn tags_stand_behind_fields()
 {}
 
 /// Behind `type`, alone or with a parenthesis and whole specifications, a name and type parameters
-/// in their brackets, `=` is that of a generic alias.
+/// in their brackets, `=` is that of a generic alias. It is one exactly where the words before it
+/// end with a name and whole type parameters, behind `type` or behind a semicolon or the parenthesis
+/// itself in a parenthesis of `type`.
 pub fn aliases_stand_behind_params()
-    ensures { AliasesBehindParams }
+    ensures behind { AliasesBehindParams }
+    ensures exactly { AliasesExactly }
 {}
