@@ -15,7 +15,7 @@ use Rattle.ui_scopes.specs.Operands.{OperandTree, value, many, type_of, generic_
 use Rattle.ui_scopes.specs.Scopes as scopes
 use Rattle.ui_scopes.specs.Scopes.{World, ScopeTree, MeaningTree}
 use Rattle.ui_scopes.specs.Local.{Names, TypeIn, FaceIn, OperandIn, no_package, Agree, Same, same_then, same_weaker, same_ok, same_err, same_if, under_at_same}
-use Rattle.ui_rules.specs.Names.{refuse_name, constant_object, object_face, object_found, object_operand, outside_names, later_names, is_word, predeclared_operand, meaning_operand, name_operand, package_member}
+use Rattle.ui_rules.specs.Names.{refuse_name, constant_object, object_face, object_found, object_operand, is_outside, is_later, predeclared_operand, meaning_operand, name_operand, package_member}
 use Rattle.ui_local.specs.Mentioned.{MeaningIn, ScopeIn, IsPackage}
 use Rattle.ui_local.proofs.ConstantsLocal.{SameValue, Local}
 
@@ -69,7 +69,7 @@ predeclared_local : (S : Names) (file : List ℕ) (at : Spot) (n : List ℕ) →
 predeclared_local S file at n =
     same_if (bytes_eq n (codes "true")) (same_ok (tt, tt))
     (same_if (bytes_eq n (codes "false")) (same_ok (tt, tt))
-    (same_if (is_word outside_names n) same_err (same_if (is_word later_names n) same_err same_err)))
+    (same_if (is_outside n) same_err (same_if (is_later n) same_err same_err)))
 
 -- ---- names
 

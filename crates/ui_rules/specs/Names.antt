@@ -77,13 +77,19 @@ later_names =
 abbrev pub is_word : List (List ℕ) → List ℕ → Bool
 is_word words n = list_any (λ word. bytes_eq word n) words
 
+unfoldable pub is_outside : List ℕ → Bool
+is_outside n = is_word outside_names n
+
+unfoldable pub is_later : List ℕ → Bool
+is_later n = is_word later_names n
+
 -- "Predeclared identifiers": `iota` has a meaning in a constant specification alone, where the scope says it
 abbrev pub predeclared_operand : List ℕ → Spot → List ℕ → Checks OperandTree
 predeclared_operand file at n =
     if bytes_eq n (codes "true") then Ok (constant_operand (basic UntypedBool) (Truth true))
     else (if bytes_eq n (codes "false") then Ok (constant_operand (basic UntypedBool) (Truth false))
-    else (if is_word outside_names n then refuse_name file at fault.OutsideName n
-    else (if is_word later_names n then refuse file at not_taken
+    else (if is_outside n then refuse_name file at fault.OutsideName n
+    else (if is_later n then refuse file at not_taken
     else refuse_name file at fault.Undefined n)))
 
 -- ---- names
