@@ -29,14 +29,14 @@ fn assert_name(rt: &impl Abort, name: &[u8])
     assert!(rt; is_name(name));
 }
 
-// Declares a constant in the file `f`.
+// Declares a constant in the file `f`, and gives whether its name is new.
 fn declare(
     alloc: Global,
     package: &mut Package,
     name: &[u8],
     line: u32,
     value: u128,
-) -> Result<(), NoMemory>
+) -> Result<bool, NoMemory>
     ensures { OnOk result («package».new ≡ with_decls «package».old
         (insert «package».old.decls name.now (record {
           file = 102 ∷ [];
@@ -48,8 +48,7 @@ fn declare(
     let file = Text::from_slice(alloc, b"f")?;
     let pos = Pos { file, line, col: 7 };
     let name = Vec::from_slice(alloc, name)?;
-    package.declare(name, Constant { pos, value })?;
-    Ok(())
+    package.declare(name, Constant { pos, value })
 }
 
 // A package below, always of one fingerprint.
@@ -87,46 +86,56 @@ fn sample(rt: &(impl Abort + AllocGlobal)) -> Result<Linked, NoMemory>
     Ok(Linked { package, below })
 }
 
+// What was read is the sample.
+fn compare(rt: &impl Abort, read: &Linked) {
+    assert_eq!(rt;
+        (read.package.path(), read.package.name()),
+        (b"x/a".as_slice(), b"a".as_slice())
+    );
+    assert_eq!(rt; read.package.value(b"N"), Some(7));
+    assert_eq!(rt; read.package.value(b"M"), Some((1 << 127) - 1));
+    assert_eq!(rt; read.below.len(), 2);
+    assert!(rt; read.below[0].direct && !read.below[1].direct);
+    assert_eq!(rt;
+        (read.below[0].print, read.below[1].print),
+        ([9; 8], [9; 8])
+    );
+}
+
+// The text of what a file stands for, which is the sample.
+fn read_text(rt: &(impl Abort + AllocGlobal), file: &[u8]) -> Result<String, Fail> {
+    let read = read_file(rt.alloc(), file)?.ok_or("no package")?;
+    compare(rt, &read);
+    Ok(format!(in rt.alloc(); "{read:?}")?)
+}
+
+// The text of the sample, and its file.
+fn written(rt: &(impl Abort + AllocGlobal)) -> Result<(String, Vec<u8>), NoMemory> {
+    let linked = sample(rt)?;
+    let text = format!(in rt.alloc(); "{linked:?}")?;
+    let file = write_linked(rt.alloc(), &linked)?;
+    Ok((text, file))
+}
+
 #[test]
 fn read_again(rt: HostRuntime) -> Result<(), Fail> {
-    let alloc = rt.alloc();
-    let linked = sample(&rt)?;
-    let file = write_linked(alloc, &linked)?;
-    let text = format!(in alloc; "{linked:?}")?;
+    let (text, file) = written(&rt)?;
     // The public root: the Pkg, and the constants by their names.
-    let public = Frame::open(&file)?.element(Section::Meta, 0);
     assert_eq!(rt;
-        public.ok_or("no public root")?,
-        b"\x03\x03\0\x06\0\x06\x01\0\0\x02\0\x01\0\0\x02\0".as_slice()
+        Frame::open(&file)?.element(Section::Meta, 0),
+        Some(b"\x03\x03\0\x06\0\x06\x01\0\0\x02\0\x01\0\0\x02\0".as_slice())
     );
     for _turn in 0..2 {
-        let read = read_file(alloc, &file)?.ok_or("no package")?;
-        assert_eq!(rt; format!(in alloc; "{read:?}")?, text);
-        assert_eq!(rt; read.package.path(), b"x/a".as_slice());
-        assert_eq!(rt; read.package.name(), b"a".as_slice());
-        assert_eq!(rt; read.package.value(b"N"), Some(7));
-        assert_eq!(rt; read.package.value(b"M"), Some((1 << 127) - 1));
-        assert_eq!(rt; read.below.len(), 2);
-        assert!(rt; read.below[0].direct && !read.below[1].direct);
-        assert_eq!(rt; read.below[0].print, [9; 8]);
-        assert_eq!(rt; read.below[1].print, [9; 8]);
+        assert_eq!(rt; read_text(&rt, &file)?, text);
     }
     Ok(())
 }
 
 #[test]
 fn declared_again(rt: HostRuntime) -> Result<(), Fail> {
-    let alloc = rt.alloc();
-    let mut package = Package::new(alloc, b"x/a", b"a")?;
+    let mut package = Package::new(rt.alloc(), b"x/a", b"a")?;
     for (value, is_new) in [(7, true), (8, false)] {
-        let file = Text::from_slice(alloc, b"f")?;
-        let pos = Pos {
-            file,
-            line: 3,
-            col: 7,
-        };
-        let declared = package.declare(b"N".to_vec(alloc)?, Constant { pos, value })?;
-        assert_eq!(rt; declared, is_new);
+        assert_eq!(rt; declare(rt.alloc(), &mut package, b"N", 3, value)?, is_new);
         assert_eq!(rt; package.value(b"N"), Some(value));
     }
     Ok(())
