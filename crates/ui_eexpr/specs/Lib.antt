@@ -1,0 +1,4 @@
+pub mod Uses
+pub mod UseLaws
+pub mod Codes
+pub mod Exprs
