@@ -1,0 +1,6 @@
+pub mod Fronts
+pub mod Steps
+pub mod Stages
+pub mod Growing
+pub mod Counted
+pub mod Numbers
