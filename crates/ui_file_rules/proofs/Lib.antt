@@ -1,0 +1,5 @@
+pub mod Places
+pub mod Seeing
+pub mod TypesEqual
+pub mod TwiceSteps
+pub mod Free
