@@ -11,4 +11,4 @@ mod package;
 pub use before::{Before, NameSet, PackageNames};
 pub use items::{Item, What, items_of};
 pub use levels::{file_levels, package_level};
-pub use package::names_of;
+pub use package::{known_as, names_of};

@@ -74,11 +74,7 @@ fn package_name(alloc: Global, names: &PackageNames, path: &Text) -> Result<Text
 }
 
 /// The name that an import is known by, with its place.
-pub(crate) fn known_as(
-    alloc: Global,
-    names: &PackageNames,
-    spec: &ImportSpec,
-) -> Result<Placed, NoMemory>
+pub fn known_as(alloc: Global, names: &PackageNames, spec: &ImportSpec) -> Result<Placed, NoMemory>
     ensures { IfOk result (λ p. p ≡ rules.known_as names.now spec.now.name spec.now.path) }
 {
     match &spec.name {
