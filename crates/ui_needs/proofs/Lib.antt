@@ -1,0 +1,4 @@
+pub mod NeedLemmas
+pub mod LinkLemmas
+pub mod RangeLemmas
+pub mod CycleLemmas

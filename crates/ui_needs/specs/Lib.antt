@@ -1,0 +1,4 @@
+pub mod Needs
+pub mod Links
+pub mod Cycles
+pub mod Views
