@@ -7,10 +7,13 @@ use Rattle.std.specs.Prelude.{nat_eq, bytes_eq, Vec, IfSome}
 use Rattle.std.specs.declared.alloc.Global.{Global}
 use Rattle.std.proofs.Common.{◌⊎◌, inl, inr}
 use Rattle.std.proofs.lemmas.Bool.{or_cases, eqb-true}
+use Rattle.std.proofs.lemmas.List.{length-map}
 use Rattle.ui_tree.specs.Tree as tree
 use Rattle.ui_tree.specs.Tree.{TypeTree, Groups, MaybeType, Tree, Trees}
 use Rattle.ui_collect.specs.Names.{is_blank, is_init}
 use Rattle.ui_collect.specs.Items.{What, aliased, made_as, varied, valued, miscounted, called, Item}
+use Rattle.ui_collect.specs.Views.{item_view}
+use Rattle.ui_collect.specs.declared.items.Item as code
 use Rattle.ui_order.specs.Steps.{has}
 use Rattle.ui_order.specs.Numbers.{Links, linked, AreLinked}
 use Rattle.ui_needs.specs.declared.numbers.Nodes.{Nodes}
@@ -220,3 +223,12 @@ links_are_linked v ds e i j h =
     let size : length v ≡ m = sym (lists_length v) ∙ ap length e ∙ links_length at 0 ds in
     let P : ℕ → Type 0 = λ k. j < k in
     subst P (sym size) small
+
+pub links_are_two : (v : Links) (ds : List code.Item) → lists v ≡ links_of (map item_view ds)
+    → length v ≡ 2 * length ds
+unfolding links_of
+links_are_two v ds e =
+    sym (lists_length v) ∙ ap length e ∙ links_length (numbers_of (map item_view ds)) 0 (map
+    item_view ds) ∙ ap (λ n. 2 * n) (length-map ds item_view)
+
+pub ruleset ranging = (links_are_linked, links_are_two)

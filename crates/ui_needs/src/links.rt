@@ -1,7 +1,7 @@
 // What declarations depend on, by the numbers of their nodes.
 #![tactic(auto, using(std::proofs::lemmas::Grind::common_steps, crate::proofs::NeedLemmas::adding))]
 
-ghost use Rattle.std.specs.Prelude.{◌≡◌, ◌++◌, ◌∷◌, ◌*◌, ℕ, [], IfOk, OnOk, map};
+ghost use Rattle.std.specs.Prelude.{◌≡◌, ◌++◌, ◌∷◌, ◌*◌, ℕ, [], IfOk, OnOk, length, map};
 ghost use Rattle.ui_collect.specs.Views.{item_view, what_view};
 ghost use Rattle.ui_order.specs.Numbers.{AreLinked};
 ghost use Rattle.ui_needs.specs.Links as links;
@@ -111,10 +111,11 @@ fn all_links(
 
 /// What each node depends on, by numbers: 2k is what the name of the k-th declaration is declared
 /// as, 2k + 1 the underlying type of that.
-#[tactic(auto, using(std::proofs::lemmas::Grind::common_steps, crate::proofs::LinkLemmas::linking, crate::proofs::RangeLemmas::links_are_linked))]
+#[tactic(auto, using(std::proofs::lemmas::Grind::common_steps, crate::proofs::LinkLemmas::linking, crate::proofs::RangeLemmas::ranging))]
 pub fn links_of(alloc: Global, items: &[Item<'_>]) -> Result<Vec<Vec<usize>>, NoMemory>
     ensures links { IfOk result (λ v. lists v.items ≡ links.links_of (map item_view items.now)) }
     ensures linked { IfOk result (λ v. AreLinked v.items) }
+    ensures count { IfOk result (λ v. length v.items ≡ 2 * length items.now) }
 {
     let numbers = numbers_of(alloc, items)?;
     let links = all_links(alloc, &numbers, items)?;
