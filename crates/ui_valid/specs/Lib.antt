@@ -1,0 +1,4 @@
+pub mod Tests
+pub mod Record
+pub mod Verdict
+pub mod Prints
